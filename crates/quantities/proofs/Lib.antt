@@ -1,0 +1,5 @@
+mod Bounds
+mod Discounts
+mod Rounded
+mod Shapes
+mod Weights

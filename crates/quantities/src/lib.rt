@@ -1,0 +1,8 @@
+//! The quantities of a margin: their ranges, dates, amounts and refusals.
+
+pub mod amount;
+pub mod date;
+pub mod isin;
+pub mod range;
+pub mod refusal;
+pub mod tranche;
