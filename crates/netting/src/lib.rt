@@ -26,7 +26,9 @@ pub impl NettingRule for Net as NetRule {
     ghost charged = { λ _. net };
 
     fn charge(&self, bought: Titles, sold: Titles) -> Titles {
-        Titles { count: bought.count.abs_diff(sold.count) }
+        Titles {
+            count: bought.count.abs_diff(sold.count),
+        }
     }
 }
 
@@ -38,7 +40,9 @@ pub impl NettingRule for Gross as GrossRule {
     ghost charged = { λ _. gross };
 
     fn charge(&self, bought: Titles, sold: Titles) -> Titles {
-        Titles { count: bought.count.max(sold.count) }
+        Titles {
+            count: bought.count.max(sold.count),
+        }
     }
 }
 
@@ -50,6 +54,8 @@ pub impl NettingRule for BothSides as BothSidesRule {
     ghost charged = { λ _. both-sides };
 
     fn charge(&self, bought: Titles, sold: Titles) -> Titles {
-        Titles { count: bought.count + sold.count }
+        Titles {
+            count: bought.count + sold.count,
+        }
     }
 }

@@ -38,9 +38,13 @@ value-fits p (negsuc n) h w =
     let f = mul-le-mul h e in
     record { low = omega (arith, ints); high = omega (arith, ints) }
 
-pub tenth-fits : (z : ℤ) → Within 4000000000000 z → Within 400000000000 (round-down-signed z 10)
-tenth-fits (pos n) w = record { low = omega (arith, ints); high = omega (arith, ints) }
-tenth-fits (negsuc n) w = record { low = omega (arith, ints); high = omega (arith, ints) }
+pub tenth-low : (z : ℤ) → negsuc 3999999999999 ≤ℤ z → negsuc 399999999999 ≤ℤ round-down-signed z 10
+tenth-low (pos n) h = omega (arith, ints)
+tenth-low (negsuc n) h = omega (arith, ints)
+
+pub tenth-high : (z : ℤ) → z ≤ℤ pos 4000000000000 → round-down-signed z 10 ≤ℤ pos 400000000000
+tenth-high (pos n) h = omega (arith, ints)
+tenth-high (negsuc n) h = omega (arith, ints)
 
 -- what the code multiplies is price × (bought − sold), and it fits
 pub record Valued (p b s : ℕ) (z : ℤ) : Type 0 where

@@ -1,4 +1,5 @@
 mod Bounds
+pub mod Decided
 mod Discounts
 mod Rounded
 mod Shapes

@@ -45,7 +45,9 @@ impl Term {
         ensures { λ r. ⌜ told (λ t. t .days) r ≡ trade-term today settlement ⌝ }
     {
         let date = settlement_date(today, settlement)?;
-        Ok(Term { days: term_days(today, date) })
+        Ok(Term {
+            days: term_days(today, date),
+        })
     }
 }
 

@@ -5,6 +5,7 @@ ghost use Prim.Native.Nat.{_+_, _*_, _/_, _%_, _≤_};
 ghost use Rattle.quantities.specs.Checked.{told};
 ghost use Rattle.quantities.specs.Isins.{all, in-class, is-letter, is-digit, isin-shaped, check-sum, is-isin, isin-in};
 use crate::refusal::Refusal;
+use std::fmt;
 
 /// How many bytes an ISIN has.
 pub const LENGTH: usize = 12;
@@ -72,7 +73,11 @@ fn weight(number: u8, doubled: bool) -> u32
     ensures is { λ r. ⌜ r ≡ cond doubled (2 * number) number / 10 + cond doubled (2 * number) number % 10 ⌝ }
     ensures small { λ r. ⌜ r ≤ 60 ⌝ }
 {
-    let counted = if doubled { 2 * u32::from(number) } else { u32::from(number) };
+    let counted = if doubled {
+        2 * u32::from(number)
+    } else {
+        u32::from(number)
+    };
     counted / 10 + counted % 10
 }
 
@@ -118,5 +123,15 @@ impl Isin {
         } else {
             Err(Refusal::Value)
         }
+    }
+}
+
+pub impl fmt::Display for Isin as IsinDisplay {
+    fn fmt<W: fmt::Write>(&self, f: &mut fmt::Formatter<W>) -> fmt::Result {
+        for byte in &self.bytes {
+            let symbol = char::from(*byte);
+            write!(f, "{symbol}")?;
+        }
+        Ok(())
     }
 }

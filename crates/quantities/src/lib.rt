@@ -5,4 +5,6 @@ pub mod date;
 pub mod isin;
 pub mod range;
 pub mod refusal;
+#[cfg(test)]
+mod tests;
 pub mod tranche;

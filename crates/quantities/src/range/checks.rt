@@ -2,12 +2,12 @@
 ghost use mathlib.Core.Path.{_≡_};
 ghost use Rattle.quantities.specs.Ranges.{most-cash, most-titles, lowest-price, highest-price, lowest-rate, highest-rate, highest-percentage};
 ghost use Rattle.quantities.specs.Checked.{told, checked, checked-signed};
-use crate::refusal::Refusal;
 use super::Cash;
 use super::MarginPercentage;
 use super::Rate;
 use super::Titles;
 use super::UnitPrice;
+use crate::refusal::Refusal;
 
 impl Cash {
     pub const MOST: u64 = 1_000_000_000_000;
@@ -37,6 +37,7 @@ impl Titles {
 
 impl UnitPrice {
     pub const LOWEST: u32 = 1;
+
     pub const HIGHEST: u32 = 2_000_000;
 
     pub fn new(millionths: u32) -> Result<UnitPrice, Refusal>
@@ -51,6 +52,7 @@ impl UnitPrice {
 
 impl Rate {
     pub const LOWEST: i16 = -500;
+
     pub const HIGHEST: i16 = 3_000;
 
     pub fn new(basis_points: i16) -> Result<Rate, Refusal>

@@ -18,8 +18,7 @@ loop-place-again-then-is-digit c = (
 
 pub loop-place-again : need.loop-place-again
 loop-place-again c =
-    let letter = c .saturating-sub-letter .ensures in
-    (
+    let letter = c .saturating-sub-letter .ensures in (
       letter-more (c .args .bytes .now) (c .loop-place .place) (c .loop-place .place - 1) (c .loop-place .sum) (c .weight .result) (c .weight-else-is-digit .result) _ (c .loop-place .doubled) (omega arith) (omega arith) (c .if-is-digit .ensures tt)
           (c .weight .ensures .is ∙ ap (λ v. weighed (c .loop-place .doubled) (v % 10)) letter)
           (c .weight-else-is-digit .ensures .is ∙ ap (λ v. weighed (not (c .loop-place .doubled)) (v / 10)) letter)
