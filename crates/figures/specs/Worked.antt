@@ -1,14 +1,25 @@
 -- The worked figures, of the definitions together.
 use Prim.Native.Nat.{ℕ, _+_}
 use mathlib.Core.Path.{_≡_}
+use mathlib.Core.List.{List, [], _∷_}
 use lib.Chars.{codes}
+use lib.Dec.{lit≤}
 use lib.IntN.{pos, negsuc}
+use lib.Signed.{leZ-yes}
 use Rattle.std.specs.declared.result.Result.the-variants.{Ok, Err}
 use Rattle.quantities.specs.Amounts.{present-up, present-down, initial-margin, market-value}
 use Rattle.quantities.specs.Dates.{trade-term}
 use Rattle.quantities.specs.Isins.{isin-in}
 use Rattle.quantities.specs.Tranches.{tranche}
+use Rattle.curve.specs.declared.point.Point.{Point}
+use Rattle.curve.specs.Points.{reach-of, step-rate, sloping-rate}
 use Rattle.netting.specs.Rules.{net, gross, both-sides}
+
+-- the points (10, 100) and (20, 95)
+abbrev two-points : List Point
+two-points =
+    record { term = 10; rate = record { «basis_points» = pos 100; above = leZ-yes tt; within = leZ-yes tt }; within = lit≤ tt }
+    ∷ (record { term = 20; rate = record { «basis_points» = pos 95; above = leZ-yes tt; within = leZ-yes tt }; within = lit≤ tt } ∷ [])
 
 pub record Worked : Type 0 where
   -- a trade's term, from any today
@@ -36,3 +47,7 @@ pub record Worked : Type 0 where
   pub initial-margin-of-three : initial-margin 3 999999 50 ≡ 1500
   pub value-bought : market-value 999999 3 0 ≡ pos 299999
   pub value-sold : market-value 999999 0 3 ≡ negsuc 299999
+  -- the two points at term 13, and their reach
+  pub sloping-at-13 : sloping-rate two-points 13 ≡ pos 98
+  pub step-at-13 : step-rate two-points 13 ≡ pos 95
+  pub reach-of-points : reach-of two-points ≡ 21

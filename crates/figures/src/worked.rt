@@ -2,6 +2,13 @@
 ghost use Rattle.figures.specs.Worked.{Worked};
 use crate::report::show;
 use crate::report::show_refusal;
+use curve::Curve;
+use curve::point::Point;
+use curve::point::points::Points;
+use curve::sloping::SlopingCurve;
+use curve::sloping::SlopingCurveRates;
+use curve::step::StepCurve;
+use curve::step::StepCurveRates;
 use netting::BothSides;
 use netting::BothSidesRule;
 use netting::Gross;
@@ -138,6 +145,30 @@ fn show_three_titles(rt: &impl Print) -> io::Result<()> {
     )
 }
 
+fn show_rate(rt: &impl Print, name: &str, curve: &impl Curve, term: u16) -> io::Result<()> {
+    match curve.rate_for(term) {
+        Ok(rate) => show(rt, name, rate.basis_points),
+        Err(refusal) => show_refusal(rt, name, refusal),
+    }
+}
+
+fn show_curves(rt: &impl Print) -> io::Result<()> {
+    let mut places = [Point::new(0, Rate { basis_points: 0 }); 2];
+    let mut points = Points::new(&mut places);
+    let _ = points.add(10, 100);
+    let _ = points.add(20, 95);
+    let sloping = SlopingCurve { points: &points };
+    let step = StepCurve { points: &points };
+    show_rate(
+        rt,
+        "points (10, 100), (20, 95) at 13, sloping",
+        &sloping,
+        13,
+    )?;
+    show_rate(rt, "points (10, 100), (20, 95) at 13, step", &step, 13)?;
+    show_rate(rt, "points (10, 100), (20, 95) at 21", &step, 21)
+}
+
 /// Prints every worked figure as the code works it out.
 pub fn show_all(rt: &impl Print) -> io::Result<()> {
     show_terms(rt)?;
@@ -146,5 +177,6 @@ pub fn show_all(rt: &impl Print) -> io::Result<()> {
     show_tranches(rt)?;
     show_isin(rt, "ES0000001018")?;
     show_isin(rt, "ES0000001017")?;
-    show_three_titles(rt)
+    show_three_titles(rt)?;
+    show_curves(rt)
 }

@@ -1,6 +1,6 @@
 mod Bounds
 pub mod Decided
 mod Discounts
-mod Rounded
+pub mod Rounded
 mod Shapes
 mod Weights

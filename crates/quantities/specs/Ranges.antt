@@ -31,3 +31,7 @@ highest-percentage = 10000
 -- the term of a trade, in days
 abbrev pub longest-term : ℕ
 longest-term = 364
+
+-- the term of a point of a curve, in days
+abbrev pub longest-curve-term : ℕ
+longest-curve-term = 65535

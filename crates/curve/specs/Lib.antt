@@ -1,0 +1,4 @@
+pub mod Curves
+pub mod Points
+pub mod Discounted
+pub mod Slopes

@@ -1,0 +1,5 @@
+pub mod Ascending
+pub mod Bytes
+pub mod Changes
+pub mod Found
+pub mod Shifted

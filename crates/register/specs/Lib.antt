@@ -1,0 +1,5 @@
+pub mod Keys
+pub mod Bytes
+pub mod Contents
+pub mod Changes
+pub mod Search
