@@ -1,4 +1,5 @@
 //! One trade by itself, as it is handed.
+use book::line::Side;
 use quantities::amount::Cents;
 use quantities::amount::SignedCents;
 use quantities::date::Date;
@@ -12,12 +13,6 @@ use quantities::range::UnitPrice;
 use quantities::tranche::Tranche;
 
 pub mod steps;
-
-#[derive(Clone, Copy)]
-pub enum Side {
-    Bought,
-    Sold,
-}
 
 /// A trade with what its charge is worked on.
 #[derive(Clone, Copy)]

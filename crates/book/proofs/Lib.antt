@@ -1,0 +1,9 @@
+pub mod Sums
+pub mod Terms
+pub mod Isins
+pub mod Ordered
+pub mod Blocks
+pub mod Joint
+pub mod Near
+pub mod Cents
+pub mod Answered
