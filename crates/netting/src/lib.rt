@@ -59,3 +59,6 @@ pub impl NettingRule for BothSides as BothSidesRule {
         }
     }
 }
+
+#[cfg(test)]
+mod tests;
