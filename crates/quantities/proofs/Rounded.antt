@@ -1,9 +1,9 @@
 -- A rounded fraction stays within one of the fraction, on its own side.
 use Prim.Native.Nat.{ℕ, zero, suc, _+_, _-_, _*_, _/_, _%_, _≤_, _<_, min}
 use native.Mathlib.Omega.{arith}
-use native.Mathlib.Nat.{add-mul, mul-le-mul-right, mod-lt, add-zero, le-antisymm, lt-of-mul-lt-mul-right}
-use mathlib.Core.Path.{_≡_, refl, sym, ap, _∙_}
-use lib.IntN.{ℤ, pos, negsuc, _*ℤ_, _+ℤ_}
+use native.Mathlib.Nat.{add-mul, mod-lt, add-zero, le-antisymm, lt-of-mul-lt-mul-right}
+use mathlib.Core.Path.{_≡_, refl, ap, _∙_}
+use lib.IntN.{ℤ, pos, negsuc}
 use Rattle.std.specs.Numbers.{divEuclid}
 use Rattle.std.proofs.shelf.Bits.{div-add-mod'}
 use Rattle.std.proofs.shelf.Signed.{ints}
