@@ -12,14 +12,14 @@ ends c =
     between_ends (to_z w32 (of_z w32 (to_z w32 (of_z w32 c.from.result) -ℤ to_z w32 (of_z w32 c.from-start.result)))) x.basis_points y.basis_points c.risen-slope.result (omega (arith, ints))
     c.risen-slope.ensures.up c.risen-slope.ensures.down x.above x.within y.above y.within
 
-pub overflow-add-result : goal.overflow-add-result
-overflow-add-result c = let e = ends c in omega (arith, ints)
+pub overflow_add-result : goal.overflow_add-result
+overflow_add-result c = let e = ends c in omega (arith, ints)
 
-pub overflow-cast-result : goal.overflow-cast-result
-overflow-cast-result c = let e = ends c in omega (arith, ints)
+pub overflow_cast-result : goal.overflow_cast-result
+overflow_cast-result c = let e = ends c in omega (arith, ints)
 
-pub invariant-of-result : goal.invariant-of-result
-invariant-of-result c = let e = ends c in (omega (arith, ints), (omega (arith, ints), tt))
+pub invariant_of-result : goal.invariant_of-result
+invariant_of-result c = let e = ends c in (omega (arith, ints), (omega (arith, ints), tt))
 
 pub returns : goal.returns
 returns c =

@@ -14,8 +14,8 @@ product c =
     let y : to_z w32 (of_z w32 c.from.result) ≡ pos c.args.ahead = omega (arith, ints) in
     rw (x, y) refl
 
-pub overflow-mul-rise : goal.overflow-mul-rise
-overflow-mul-rise c =
+pub overflow_mul-rise : goal.overflow_mul-rise
+overflow_mul-rise c =
     let k = risen_is c.args.rise c.args.ahead c.args.span c.requires.0 c.requires.1.0 c.requires.1.1 (omega arith) in
     let p = product c in
     omega (arith, ints)
@@ -29,6 +29,6 @@ returns c =
     let p = product (goal.at.returns c).After-from in
     let q : to_z w32 (of_z w32 (to_z w32 (of_z w32 rise) *ℤ to_z w32 (of_z w32 c.from.result))) ≡ rise *ℤ pos a = omega (arith, ints) in
     let s : to_z w32 (of_z w32 c.from-2.result) ≡ pos b = omega (arith, ints) in
-    let r : to_z w32 (of_z w32 c.div-euclid.result) ≡ c.div-euclid.result = omega (arith, ints) in
-    let is : to_z w32 (of_z w32 c.div-euclid.result) ≡ round_down_signed (rise *ℤ pos a) b = r ∙ (c.div-euclid.ensures ∙ (ap (λ z. int_div_euclid z (to_z w32 (of_z w32 c.from-2.result))) q ∙ (ap (λ z. int_div_euclid (rise *ℤ pos a) z) s ∙ euclid_down (rise *ℤ pos a) b))) in
+    let r : to_z w32 (of_z w32 c.div_euclid.result) ≡ c.div_euclid.result = omega (arith, ints) in
+    let is : to_z w32 (of_z w32 c.div_euclid.result) ≡ round_down_signed (rise *ℤ pos a) b = r ∙ (c.div_euclid.ensures ∙ (ap (λ z. int_div_euclid z (to_z w32 (of_z w32 c.from-2.result))) q ∙ (ap (λ z. int_div_euclid (rise *ℤ pos a) z) s ∙ euclid_down (rise *ℤ pos a) b))) in
     record { is = is; up = rw is k.up; down = rw is k.down }

@@ -8,8 +8,8 @@ use Rattle.quantities.proofs.amount.discount_base.Goals.{After-from-2}
 based : (c : After-from-2) → Discounts (to_z w64 (of_z w64 c.from.result) *ℤ to_z w64 (of_z w64 c.from-2.result)) (present_lower c.args.rate.basis_points c.args.term.days)
 based c = discounts_by c.args.rate.basis_points (to_z w64 (of_z w64 c.from.result)) (to_z w64 (of_z w64 c.from-2.result)) c.args.term.days (omega (arith, ints)) (omega (arith, ints)) c.args.rate.above c.args.rate.within c.args.term.within
 
-pub overflow-cast-result-2 : goal.overflow-cast-result-2
-overflow-cast-result-2 c = let b = based c in (omega (arith, ints), omega (arith, ints))
+pub overflow_cast-result-2 : goal.overflow_cast-result-2
+overflow_cast-result-2 c = let b = based c in (omega (arith, ints), omega (arith, ints))
 
 pub returns : goal.returns
 returns c =

@@ -8,5 +8,5 @@ pub returns : goal.returns
 returns c =
     let n = c.args.upper in
     let d = c.args.lower in
-    let is : c.div-ceil.result ≡ round_up n d = c.div-ceil.ensures ∙ ceiling n d c.requires in
+    let is : c.div_ceil.result ≡ round_up n d = c.div_ceil.ensures ∙ ceiling n d c.requires in
     record { is = is; near = rw is (just_above n d c.requires); high = rw is (present_up_fits n d) }

@@ -10,6 +10,6 @@ pub returns : goal.returns
 returns c =
     let z = c.args.upper in
     let v : to_z w64 (of_z w64 z) ≡ z = omega (arith, ints) in
-    let r : to_z w64 (of_z w64 c.div-euclid.result) ≡ c.div-euclid.result = omega (arith, ints) in
-    let is : to_z w64 (of_z w64 c.div-euclid.result) ≡ round_down_signed z 10 = r ∙ (c.div-euclid.ensures ∙ (ap (λ y. int_div_euclid y (pos 10)) v ∙ euclid_down z 10)) in
+    let r : to_z w64 (of_z w64 c.div_euclid.result) ≡ c.div_euclid.result = omega (arith, ints) in
+    let is : to_z w64 (of_z w64 c.div_euclid.result) ≡ round_down_signed z 10 = r ∙ (c.div_euclid.ensures ∙ (ap (λ y. int_div_euclid y (pos 10)) v ∙ euclid_down z 10)) in
     record { is = is; near = rw is (just_below_signed z 10 (omega arith)); low = rw is (tenth_low z); high = rw is (tenth_high z) }

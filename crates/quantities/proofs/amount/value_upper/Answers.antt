@@ -11,8 +11,8 @@ product c =
     (to_z w64 (of_z w64 c.from-3.result)) (to_z w64 (of_z w64 (to_z w64 (of_z w64 c.from.result) -ℤ to_z w64 (of_z w64 c.from-2.result))))
     c.args.price.within c.args.bought.within c.args.sold.within (omega (arith, ints)) (omega (arith, ints))
 
-pub overflow-mul-result : goal.overflow-mul-result
-overflow-mul-result c = let p = product c in omega (arith, ints)
+pub overflow_mul-result : goal.overflow_mul-result
+overflow_mul-result c = let p = product c in omega (arith, ints)
 
 pub returns : goal.returns
 returns c = let p = product c in record { is = omega (arith, ints); low = omega (arith, ints); high = omega (arith, ints) }

@@ -5,10 +5,10 @@ use Rattle.curve.proofs.Found.{beyond, reached}
 use Rattle.curve.proofs.Sloped.{not_before, last_below, at_point, before_first, between_points}
 use Rattle.curve.proofs.sloping.SlopingCurveCurve.rate_for.Goals as goal
 
-pub returns-in-default : goal.returns-in-default
-returns-in-default c =
+pub returns-in_default : goal.returns-in_default
+returns-in_default c =
     let ps = points_of c.args.self.now.points.now in
-    let f = c.in-default.ensures ∙ ap first_of c.split-at.ensures.from in
+    let f = c.in_default.ensures ∙ ap first_of c.split-at.ensures.from in
     record { answer = rw (le-ltb c.args.term (reach_of ps) (beyond ps c.args.term f)) refl; unchanged = refl }
 
 pub returns-then-next-term : goal.returns-then-next-term

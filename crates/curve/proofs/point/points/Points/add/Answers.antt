@@ -7,7 +7,7 @@ use Rattle.curve.proofs.point.points.Points.add.Goals as goal
 
 pub returns : goal.returns
 returns c =
-    let a = accepted _ _ _ _ c.in-ok-rate.ensures in
+    let a = accepted _ _ _ _ c.in_ok-rate.ensures in
     let v : to_z w16 (of_z w16 c.args.rate) ≡ c.args.rate = omega (arith, ints) in
     record {
       change = record {
