@@ -1,5 +1,6 @@
 use Rattle.std.proofs.Common.{◌≡◌, ℕ, ◌+◌, ◌<◌, List, length, get_or, sym, ◌∙◌, arith, below_more}
 use Rattle.std.proofs.lemmas.List.{ext_get_or}
+use Rattle.std.proofs.lemmas.Map.Lookups.{exact_unsigned}
 use Rattle.register.specs.Bytes.{Bytes}
 use Rattle.register.proofs.Bytes.{decides, byte_order}
 use Rattle.register.proofs.key.byte_order.Goals as goal
@@ -17,7 +18,7 @@ pub loop-i-preserved : goal.loop-i-preserved
 loop-i-preserved c =
     let left = twelve _ c.told-left c.fits-left in
     let right = twelve _ c.told-right c.fits-right in
-    let same : (k : ℕ) → k < c.loop-i.i + 1 → get_or c.args.left.now k 0 ≡ get_or c.args.right.now k 0 = below_more _ _ c.loop-i.invariant.0 (let e = c.in-Equal.ensures in omega arith) in
+    let same : (k : ℕ) → k < c.loop-i.i + 1 → get_or c.args.left.now k 0 ≡ get_or c.args.right.now k 0 = below_more _ _ c.loop-i.invariant.0 (exact_unsigned _ _ (sym c.in-Equal.ensures)) in
     (same, decides _ _ left right _ same, decides _ _ right left _ (λ k l. sym (same k l)), byte_order 12)
 
 pub returns : goal.returns

@@ -5,7 +5,7 @@ use Rattle.register.proofs.register.Register.find.Goals as goal
 
 pub returns-in-Ok : goal.returns-in-Ok
 returns-in-Ok g c =
-    let f = by g.Key-as-Key.rank g.R.Record.key_of in
+    let f = by g.R.Key.Key.rank g.R.Record.key_of in
     let x = c.index-records-at.result in
     let r = c.index-records-at.is in
     let e = c.records-records.ensures in
