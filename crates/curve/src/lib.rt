@@ -20,8 +20,7 @@ pub trait Curve {
 
     /// The rate for a term; refuses a term that is not below the reach.
     fn rate_for(&self, term: u16) -> Result<Rate, Refusal>
-        ensures answer { told (λ rate. rate.basis_points) result ≡ rate_answer (reach self.now) (rate self.now) term }
-        ensures unchanged { self.now ≡ self.now };
+        ensures answer { told (λ rate. rate.basis_points) result ≡ rate_answer (reach self.now) (rate self.now) term };
 }
 
 #[cfg(test)]

@@ -19,7 +19,7 @@ pub overflow_cast-result : goal.overflow_cast-result
 overflow_cast-result c = let e = ends c in omega (arith, ints)
 
 pub invariant_of-result : goal.invariant_of-result
-invariant_of-result c = let e = ends c in (omega (arith, ints), (omega (arith, ints), tt))
+invariant_of-result c = let e = ends c in record { above = omega (arith, ints); within = omega (arith, ints) }
 
 pub returns : goal.returns
 returns c =

@@ -8,40 +8,40 @@ use Rattle.curve.proofs.sloping.SlopingCurveCurve.rate_for.Goals as goal
 pub returns-in_default : goal.returns-in_default
 returns-in_default c =
     let ps = points_of c.args.self.now.points.now in
-    let f = c.in_default.ensures ∙ ap first_of c.split-at.ensures.from in
-    record { answer = rw (le-ltb c.args.term (reach_of ps) (beyond ps c.args.term f)) refl; unchanged = refl }
+    let f = c.in_default.ensures ∙ ap first_of c.split_at.ensures.from in
+    record { answer = rw (le-ltb c.args.term (reach_of ps) (beyond ps c.args.term f)) refl }
 
 pub returns-then-next-term : goal.returns-then-next-term
 returns-then-next-term c =
     let ps = points_of c.args.self.now.points.now in
     let t = c.args.term in
     let q = c.in-Some.next in
-    let f = c.in-Some.ensures ∙ ap first_of c.split-at.ensures.from in
-    record { answer = rw (lt-ltb t (reach_of ps) (reached ps t q c.args.self.now.points.now.ascends f), at_point ps t q f c.if-next-term.true) refl; unchanged = refl }
+    let f = c.in-Some.ensures ∙ ap first_of c.split_at.ensures.from in
+    record { answer = rw (lt-ltb t (reach_of ps) (reached ps t q c.args.self.now.points.now.ascends f), at_point ps t q f c.if-next-term.true) refl }
 
-pub rate-between-requires : goal.rate-between-requires
-rate-between-requires c =
+pub rate_between-requires : goal.rate_between-requires
+rate_between-requires c =
     let ps = points_of c.args.self.now.points.now in
-    let f = c.in-Some.ensures ∙ ap first_of c.split-at.ensures.from in
+    let f = c.in-Some.ensures ∙ ap first_of c.split_at.ensures.from in
     let b = not_before ps c.args.term c.in-Some.next f in
-    (last_below ps c.args.term c.in-Some-last-point.previous (c.in-Some-last-point.ensures ∙ ap last_of c.split-at.ensures.below), omega (arith, c.if-next-term.false))
+    (last_below ps c.args.term c.in-Some-last_point.previous (c.in-Some-last_point.ensures ∙ ap last_of c.split_at.ensures.below), omega (arith, c.if-next-term.false))
 
-pub returns-in-Some-last-point : goal.returns-in-Some-last-point
-returns-in-Some-last-point c =
+pub returns-in-Some-last_point : goal.returns-in-Some-last_point
+returns-in-Some-last_point c =
     let ps = points_of c.args.self.now.points.now in
     let t = c.args.term in
     let q = c.in-Some.next in
-    let f = c.in-Some.ensures ∙ ap first_of c.split-at.ensures.from in
-    let l = c.in-Some-last-point.ensures ∙ ap last_of c.split-at.ensures.below in
+    let f = c.in-Some.ensures ∙ ap first_of c.split_at.ensures.from in
+    let l = c.in-Some-last_point.ensures ∙ ap last_of c.split_at.ensures.below in
     let b = not_before ps t q f in
-    let s = between_points ps t c.in-Some-last-point.previous q l f (omega (arith, c.if-next-term.false)) in
-    record { answer = rw (lt-ltb t (reach_of ps) (reached ps t q c.args.self.now.points.now.ascends f), s, c.rate-between.ensures) refl; unchanged = refl }
+    let s = between_points ps t c.in-Some-last_point.previous q l f (omega (arith, c.if-next-term.false)) in
+    record { answer = rw (lt-ltb t (reach_of ps) (reached ps t q c.args.self.now.points.now.ascends f), s, c.rate_between.ensures) refl }
 
 pub returns-in-None : goal.returns-in-None
 returns-in-None c =
     let ps = points_of c.args.self.now.points.now in
     let t = c.args.term in
     let q = c.in-Some.next in
-    let f = c.in-Some.ensures ∙ ap first_of c.split-at.ensures.from in
-    let l = c.in-None.ensures ∙ ap last_of c.split-at.ensures.below in
-    record { answer = rw (lt-ltb t (reach_of ps) (reached ps t q c.args.self.now.points.now.ascends f), before_first ps t q l f) refl; unchanged = refl }
+    let f = c.in-Some.ensures ∙ ap first_of c.split_at.ensures.from in
+    let l = c.in-None.ensures ∙ ap last_of c.split_at.ensures.below in
+    record { answer = rw (lt-ltb t (reach_of ps) (reached ps t q c.args.self.now.points.now.ascends f), before_first ps t q l f) refl }
