@@ -27,14 +27,14 @@ returns g c =
     let d = accepted _ _ _ _ c.in_ok-term.ensures in
     let rule = g.N.NettingRule.charged c.args.rule.now in
     let m : to_z w64 (of_z w64 c.market_value.result) ≡ c.market_value.result = omega (arith, ints) in
-    let v : to_z w64 (of_z w64 c.variation-margin-variation.result) ≡ c.variation-margin-variation.result = omega (arith, ints) in
-    let vm : c.variation-margin-variation.result ≡ variation_of t = c.variation-margin-variation.ensures.is ∙ same_variation t p days w.1 d.1 in
-    let im : c.initial-margin-initial.result ≡ initial_of rule t = c.initial-margin-initial.ensures.is ∙ same_initial rule t p _ w.1 c.charge-charged.ensures.answer in (
+    let v : to_z w64 (of_z w64 c.variation_margin-variation.result) ≡ c.variation_margin-variation.result = omega (arith, ints) in
+    let vm : c.variation_margin-variation.result ≡ variation_of t = c.variation_margin-variation.ensures.is ∙ same_variation t p days w.1 d.1 in
+    let im : c.initial_margin-initial.result ≡ initial_of rule t = c.initial_margin-initial.ensures.is ∙ same_initial rule t p _ w.1 c.charge-charged.ensures.answer in (
       w.0,
       d.0,
       record {
         term = d.1;
-        tranche = c.of-life.ensures ∙ ap tranche c.residual_life.ensures;
+        tranche = c.of_life.ensures ∙ ap tranche c.residual_life.ensures;
         up = c.present_value_up.ensures.is ∙ same_up t p days w.1 d.1;
         down = c.present_value_down.ensures.is ∙ same_down t p days w.1 d.1;
         charged_titles = c.charge-charged.ensures.answer ∙ rw (w.1.bought_titles, w.1.sold_titles) refl;
