@@ -39,7 +39,7 @@ fn lines_ascend_and_a_refusal_leaves_them(rt: HostRuntime) {
     assert_eq!(rt; refused(lines.insert(line(7))), 0);
     assert_eq!(rt; refused(lines.insert(line(5))), 0);
     assert_eq!(rt; refused(lines.insert(line(2))), 0);
-    assert!(rt; lines.records() == [line(2), line(5), line(7)]);
+    assert!(rt; lines.records() == [line(2), line(5), line(7)].as_slice());
     assert_eq!(rt;
         refused(lines.insert(Line {
             reference: 5,
@@ -48,7 +48,7 @@ fn lines_ascend_and_a_refusal_leaves_them(rt: HostRuntime) {
         6
     );
     assert_eq!(rt; refused(lines.insert(line(6))), 9);
-    assert!(rt; lines.records() == [line(2), line(5), line(7)]);
+    assert!(rt; lines.records() == [line(2), line(5), line(7)].as_slice());
     assert_eq!(rt; titles_of(lines.find(5)), 10);
     assert_eq!(rt; titles_of(lines.find(6)), 0);
 }
