@@ -1,4 +1,5 @@
 //! Lines, and what they are margined on.
+#![tactic(auto)]
 
 pub mod day;
 pub mod laws;

@@ -1,4 +1,6 @@
 //! Discount curves: a rate for each term below a reach.
+#![tactic(auto)]
+
 ghost use Rattle.std.specs.Prelude.{◌≡◌, ℕ, ℤ};
 ghost use Rattle.quantities.specs.Checked.{told};
 ghost use Rattle.curve.specs.Curves.{rate_answer, Discounting};

@@ -1,4 +1,6 @@
 //! Netting rules: the titles that a position of bought and sold titles is charged for.
+#![tactic(auto)]
+
 ghost use Rattle.std.specs.Prelude.{◌≡◌, ℕ, ◌+◌, ◌≤◌};
 ghost use Rattle.netting.specs.Rules.{Netting, net, gross, both_sides};
 ghost use Rattle.std.proofs.Common.{rules};

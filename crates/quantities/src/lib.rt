@@ -1,4 +1,5 @@
 //! The quantities of a margin: their ranges, dates, amounts and refusals.
+#![tactic(auto)]
 
 pub mod amount;
 pub mod date;

@@ -1,4 +1,5 @@
 //! Records with a key, held in the order of their keys in lent memory.
+#![tactic(auto)]
 
 pub mod key;
 pub mod record;
