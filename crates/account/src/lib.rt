@@ -1,4 +1,5 @@
 //! Lines of an account, what a book is asked and answers, and the margin defined, with its laws.
+#![tactic(auto)]
 
 pub mod call;
 pub mod laws;

@@ -1,4 +1,6 @@
 //! Values one trade from beginning to end, and prints the worked figures.
+#![tactic(auto)]
+
 use crate::input::{Misread, Mode, read_mode, read_trade};
 use crate::trade::Trade;
 use netting::{Gross, Net};

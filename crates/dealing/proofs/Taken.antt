@@ -1,12 +1,12 @@
 -- What a book has checked holds on as lines come and go.
-use Rattle.std.proofs.Common.{◌≡◌, ℕ, ◌+◌, ◌≤◌, Bool, true, false, cond, ◌&&◌, eqb, ltb, List, [], ◌∷◌, length, sym, refl, ap, ◌∙◌, subst, ap₂, ⊎_elim, arith}
+use Rattle.std.proofs.Common.{◌≡◌, ℕ, ◌+◌, ◌≤◌, true, cond, ◌&&◌, eqb, ltb, List, [], ◌∷◌, length, sym, refl, ap, subst, ap₂, ⊎_elim, arith}
 use Rattle.std.proofs.lemmas.Bool.{and_parts, and_from, cond_both, cases_Bool}
 use Rattle.quantities.specs.declared.isin.Isin.{Isin}
 use Rattle.quantities.specs.Ranges.{most_titles}
 use Rattle.register.specs.Changes.{insert_after}
 use Rattle.register.specs.Keys.{has_rank, inserted_by, without}
 use Rattle.account.specs.declared.line.Line.{Line}
-use Rattle.account.specs.Lines.{Kind, kind, same_kind, same_isin, of, keep, sum_of}
+use Rattle.account.specs.Lines.{Kind, kind, same_kind, same_isin, of}
 use Rattle.account.specs.Calls.{line_rank}
 use Rattle.account.specs.Answers.{well_formed, well_dated, titles_of, titles_with}
 use Rattle.account.proofs.Sums.{sum_first}

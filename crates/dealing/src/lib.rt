@@ -1,4 +1,5 @@
 //! The book: lines are entered and withdrawn, and its margin is asked.
+#![tactic(auto)]
 
 pub mod book;
 mod check;

@@ -1,4 +1,5 @@
 //! What books are margined on: a day, prices by ISIN and margin percentages by tranche.
+#![tactic(auto)]
 
 pub mod day;
 pub mod market;

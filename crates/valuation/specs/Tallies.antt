@@ -30,7 +30,7 @@ pub record Empty (rows : List Row) (t : Tally) : Type 0 where
 
 -- what a tally comes to with more rows
 pub record Tallied (rows : List Row) (before after : Tally) : Type 0 where
-  pub lent : after.rows.name ≡ before.rows.name
+  pub lent : after.rows.ghost_name ≡ before.rows.ghost_name
   pub places : after.rows.now ≡ written before.count rows before.rows.now
   pub count : after.count ≡ before.count + length rows
   pub trades : after.trades ≡ before.trades +ℤ block_charges trade rows

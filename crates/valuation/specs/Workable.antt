@@ -1,5 +1,5 @@
 -- Lines that can be worked: each was taken by a book, and none has a fault.
-use Rattle.std.specs.Prelude.{◌≡◌, ℕ, ◌≤◌, true, List, [], ◌∷◌, length}
+use Rattle.std.specs.Prelude.{◌≡◌, ◌≤◌, true, List, [], ◌∷◌, length}
 use Rattle.quantities.specs.Ranges.{most_cash, most_titles, longest_term}
 use Rattle.quantities.specs.declared.isin.Isin.{Isin}
 use Rattle.account.specs.declared.line.Line.{Line}

@@ -1,4 +1,5 @@
 //! The margin of lines: the check by reference, the sums and rows of each ISIN, and their total.
+#![tactic(auto)]
 
 pub mod block;
 mod check;

@@ -10,15 +10,15 @@ use Rattle.dealing.proofs.check.titles_standing.Goals as goal
 abbrev no_line : Line
 no_line = record { reference = 0; isin = record { bytes = [] }; side = Bought; titles = 0; cash = 0; block = Trade 0 }
 
-pub overflow-add-titles : goal.overflow-add-titles
-overflow-add-titles c =
+pub overflow_add-titles : goal.overflow_add-titles
+overflow_add-titles c =
     let l = c.args.line.now in
-    omega (arith, sum_turn (λ (x : Line). x.titles) (of l.isin (kind l.block)) c.args.lines.now c.loop-other.other-index no_line c.loop-other-test.true, c.loop-other.invariant, c.titles-beside-titles.ensures, c.requires)
+    omega (arith, sum_turn (λ (x : Line). x.titles) (of l.isin (kind l.block)) c.args.lines.now c.loop-other.other-index no_line c.loop-other-test.true, c.loop-other.invariant, c.titles_beside-titles.ensures, c.requires)
 
 pub loop-other-preserved : goal.loop-other-preserved
 loop-other-preserved c =
     let l = c.args.line.now in
-    omega (arith, sum_turn (λ (x : Line). x.titles) (of l.isin (kind l.block)) c.args.lines.now c.loop-other.other-index no_line c.loop-other-test.true, c.loop-other.invariant, c.titles-beside-titles.ensures)
+    omega (arith, sum_turn (λ (x : Line). x.titles) (of l.isin (kind l.block)) c.args.lines.now c.loop-other.other-index no_line c.loop-other-test.true, c.loop-other.invariant, c.titles_beside-titles.ensures)
 
 pub returns : goal.returns
 returns c =

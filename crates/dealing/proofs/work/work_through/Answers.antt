@@ -15,5 +15,5 @@ returns g c =
     let rule = c.args.rule.now in
     let new = c.new-book.ensures in
     worked_through (g.C.Curve.reach curve) (g.C.Curve.rate curve) (g.N.NettingRule.charged rule) c.args.market.now
-    c.new-book.result c.take-all.new.self c.args.calls.now c.args.answers.now c.take-all.new.answers c.args.places.now _ (told_margin c.margin.result)
-    (g.met.N.NettingRule.nets rule) (g.C.Curve.discounting curve) c.if-answers-calls.false new.empty new.room new.market c.take-all.ensures c.margin.ensures
+    c.new-book.result c.take_all.new.self c.args.calls.now c.args.answers.now c.take_all.new.answers c.args.places.now _ (told_margin c.margin.result)
+    (g.met.N.NettingRule.nets rule) (g.C.Curve.discounting curve) c.if-answers-calls.false new.empty new.room new.market c.take_all.ensures c.margin.ensures

@@ -3,15 +3,15 @@ use Rattle.std.proofs.lemmas.List.{at_drop_all}
 use Rattle.account.specs.Lines.{keep, is_trade}
 use Rattle.valuation.proofs.Counted.{length_more}
 use Rattle.valuation.proofs.margin.trades_in.Goals as goal
-use Rattle.valuation.proofs.margin.trades_in.Goals.{then-is-trade, else-is-trade}
+use Rattle.valuation.proofs.margin.trades_in.Goals.{then-is_trade, else-is_trade}
 
 pub loop-line-preserved : goal.loop-line-preserved
 loop-line-preserved c =
     let more = length_more is_trade c.args.lines.now c.loop-line.line-index in
     let h = c.loop-line-test.true in
-    elim c.if-is-trade.branch [
-      | then-is-trade w ↦ let m = more _ true h w.if-is-trade.ensures in (omega (arith, w.trades-is, c.loop-line.invariant.0), omega (arith, w.trades-is, c.loop-line.invariant.1))
-      | else-is-trade w ↦ let m = more _ false h w.if-is-trade.ensures in (omega (arith, w.trades-is, c.loop-line.invariant.0), omega (arith, w.trades-is, c.loop-line.invariant.1))
+    elim c.if-is_trade.branch [
+      | then-is_trade w ↦ let m = more _ true h w.if-is_trade.ensures in (omega (arith, w.trades-is, c.loop-line.invariant.0), omega (arith, w.trades-is, c.loop-line.invariant.1))
+      | else-is_trade w ↦ let m = more _ false h w.if-is_trade.ensures in (omega (arith, w.trades-is, c.loop-line.invariant.0), omega (arith, w.trades-is, c.loop-line.invariant.1))
     ]
 
 pub returns : goal.returns

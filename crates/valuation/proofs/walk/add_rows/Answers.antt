@@ -5,8 +5,8 @@ use Rattle.valuation.proofs.walk.add_rows.Goals as goal
 pub loop-isin-init : goal.loop-isin-init
 loop-isin-init g c = walked_none _ _ c.requires.space
 
-pub add-isin-requires : goal.add-isin-requires
-add-isin-requires g c =
+pub add_isin-requires : goal.add_isin-requires
+add_isin-requires g c =
     record { workable = c.requires.workable; space = space_next _ _ c.loop-isin.after c.in-Some.isin c.requires.workable.twelve c.in-Some.ensures c.loop-isin.invariant }
 
 pub loop-isin-smaller : goal.loop-isin-smaller
@@ -14,7 +14,7 @@ loop-isin-smaller g c = walk_falls c.loop-isin.after c.in-Some.isin c.args.lines
 
 pub loop-isin-preserved : goal.loop-isin-preserved
 loop-isin-preserved g c =
-    walked_more _ _ c.loop-isin.after c.in-Some.isin c.requires.workable.twelve c.in-Some.ensures c.add-isin.ensures.tallied c.add-isin.ensures.within c.loop-isin.invariant
+    walked_more _ _ c.loop-isin.after c.in-Some.isin c.requires.workable.twelve c.in-Some.ensures c.add_isin.ensures.tallied c.add_isin.ensures.within c.loop-isin.invariant
 
 pub returns : goal.returns
-returns g c = record { tallied = walked_all _ _ c.loop-isin.after c.in-default.ensures c.loop-isin.invariant; within = space_within c.loop-isin.invariant.space }
+returns g c = record { tallied = walked_all _ _ c.loop-isin.after c.in_default.ensures c.loop-isin.invariant; within = space_within c.loop-isin.invariant.space }

@@ -4,23 +4,22 @@ use Rattle.dealing.proofs.Entering.{enter_answers, enter_leaves}
 use Rattle.dealing.proofs.Taken.{insert_taken, insert_titles}
 use Rattle.dealing.proofs.book.Book.enter.Goals as goal
 
-pub invariant-of-self : goal.invariant-of-self
-invariant-of-self c =
+pub invariant_of-self : goal.invariant_of-self
+invariant_of-self c =
     let b = c.args.self.now in
     let i = c.insert.ensures.change b.ascends in
-    let a = c.in-ok-admit.ensures in (
-      i.ascends,
-      (
-        insert_taken (today_of b) (room_for b) c.args.line (lines_of b) _ a i.leaves b.taken,
-        (insert_titles (today_of b) (room_for b) c.args.line (lines_of b) _ a i.leaves b.titles, tt),
-      ),
-    )
+    let a = c.in_ok-admit.ensures in
+    record {
+      ascends = i.ascends;
+      taken = insert_taken (today_of b) (room_for b) c.args.line (lines_of b) _ a i.leaves b.taken;
+      titles = insert_titles (today_of b) (room_for b) c.args.line (lines_of b) _ a i.leaves b.titles;
+    }
 
 pub returns : goal.returns
 returns c =
     let b = c.args.self.now in
     let i = c.insert.ensures.change b.ascends in
-    let a = c.in-ok-admit.ensures in
+    let a = c.in_ok-admit.ensures in
     record {
       answers = enter_answers (today_of b) (room_for b) c.args.line (lines_of b) _ c.insert.result a i;
       leaves = enter_leaves (today_of b) (room_for b) c.args.line (lines_of b) _ c.insert.result a i;

@@ -8,17 +8,16 @@ use Rattle.dealing.proofs.Withdrawing.{withdraw_answers, withdraw_line, withdraw
 use Rattle.dealing.proofs.Taken.{taken_without, titles_without}
 use Rattle.dealing.proofs.book.Book.withdraw.Goals as goal
 
-pub invariant-of-self : goal.invariant-of-self
-invariant-of-self c =
+pub invariant_of-self : goal.invariant_of-self
+invariant_of-self c =
     let b = c.args.self.now in
     let r = c.args.reference in
-    let o = c.remove.ensures.change b.ascends in (
-      o.ascends,
-      (
-        subst (λ (ms : List Line). each_taken (today_of b) ms ≡ true) (sym o.leaves) (taken_without (today_of b) r (lines_of b) b.taken),
-        (λ i k. subst (λ (ms : List Line). titles_of i k ms ≤ most_titles) (sym o.leaves) (omega (arith, titles_without i k r (lines_of b), b.titles i k)), tt),
-      ),
-    )
+    let o = c.remove.ensures.change b.ascends in
+    record {
+      ascends = o.ascends;
+      taken = subst (λ (ms : List Line). each_taken (today_of b) ms ≡ true) (sym o.leaves) (taken_without (today_of b) r (lines_of b) b.taken);
+      titles = λ i k. subst (λ (ms : List Line). titles_of i k ms ≤ most_titles) (sym o.leaves) (omega (arith, titles_without i k r (lines_of b), b.titles i k));
+    }
 
 pub returns : goal.returns
 returns c =

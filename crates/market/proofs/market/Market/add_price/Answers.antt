@@ -6,10 +6,10 @@ use Rattle.market.specs.Records.{isin_rank}
 use Rattle.market.proofs.Added.{told_number, leaves_put}
 use Rattle.market.proofs.market.Market.add_price.Goals as goal
 
-pub returns-in-err-price : goal.returns-in-err-price
-returns-in-err-price c =
-    let p = err_from_is_err_and c.from-residual.result c.from-residual.ensures.1 in
-    let n = refused _ _ _ _ c.in-err-price.ensures in
+pub returns-in_err-price : goal.returns-in_err-price
+returns-in_err-price c =
+    let p = err_from_is_err_and c.from_residual.result c.from_residual.ensures.1 in
+    let n = refused _ _ _ _ c.in_err-price.ensures in
     record {
       change = rw p.1 record { answers = rw p.2 (ap Err n.1 ∙ sym (cond-false _ _ _ n.0)); leaves = refl };
       percentages = refl;
@@ -20,7 +20,7 @@ returns-in-err-price c =
 
 pub returns : goal.returns
 returns c =
-    let y = accepted _ _ _ _ c.in-ok-price.ensures in
+    let y = accepted _ _ _ _ c.in_ok-price.ensures in
     let h = c.insert.ensures.change c.args.self.now.priced in
     let e = ap (λ parts. isin_rank parts.0) y.1 in
     record {
