@@ -38,11 +38,11 @@ abbrev pub room_in : List Line → ℕ
 room_in places = min (length places) 65535
 
 -- a list of calls, worked through over places for its answers and for the lines of a book, and the margin asked after them
-pub record WorkedThrough (s : Setting) (calls : List Call) (answers answers-after : List made.Answer) (places places-after : List Line) (last : Answer) : Type 0 where
+pub record WorkedThrough (s : Setting) (calls : List Call) (answers answers_after : List made.Answer) (places places_after : List Line) (last : Answer) : Type 0 where
   -- fewer places for answers than calls are refused, with nothing done
-  pub too_few : length answers < length calls → (last ≡ refused (number TooLong) 0) × (answers-after ≡ answers) × (places-after ≡ places)
+  pub too_few : length answers < length calls → (last ≡ refused (number TooLong) 0) × (answers_after ≡ answers) × (places_after ≡ places)
   -- else every call is answered in its place, and the places after them keep what they held
-  pub kept : length calls ≤ length answers → Kept s (room_in places) (events calls answers-after) last × (drop (length calls) answers-after ≡ drop (length calls) answers)
+  pub kept : length calls ≤ length answers → Kept s (room_in places) (events calls answers_after) last × (drop (length calls) answers_after ≡ drop (length calls) answers)
 
 -- the last margins of three lists of calls: where the third book is the joint book of the first two and theirs are given, its margin is given, and at most theirs added
 abbrev pub JointKept : List Event → List Event → List Event → Answer → Answer → Answer → Type 0

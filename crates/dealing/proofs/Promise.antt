@@ -21,10 +21,10 @@ pub too_short : (s : Setting) (calls : List Call) (answers : List made.Answer) (
 too_short s calls answers places l = record { too_few = λ k. (refl, refl, refl); kept = λ k. absurd (omega arith) }
 
 -- ---- a book without lines that takes the calls, and is then asked its margin
-module _ (reach : ℕ) (rate : ℕ → ℤ) (charged : ℕ → ℕ → ℕ) (m : Market) (book worked : Book) (calls : List Call) (before after : List made.Answer) (places places-after : List Line) (last : Answer) where
+module _ (reach : ℕ) (rate : ℕ → ℤ) (charged : ℕ → ℕ → ℕ) (m : Market) (book worked : Book) (calls : List Call) (before after : List made.Answer) (places places_after : List Line) (last : Answer) where
   pub worked_through : Netting charged → Discounting reach rate → length calls ≤ length before → lines_of book ≡ [] → room_for book ≡ room_in places → book.market.now ≡ m →
       TakesAll reach rate charged calls before book after worked → last ≡ margin_answer (setting_for reach rate charged worked) (lines_of worked) →
-      WorkedThrough (setting_with reach rate charged m) calls before after places places-after last
+      WorkedThrough (setting_with reach rate charged m) calls before after places places_after last
   worked_through net rates l empty roomy same t e =
       let s : Setting = setting_with reach rate charged m in
       let es : List Event = events calls after in
@@ -36,7 +36,7 @@ module _ (reach : ℕ) (rate : ℕ → ℤ) (charged : ℕ → ℕ → ℕ) (m :
       record { too_few = λ k. absurd (omega arith); kept = λ k. (subst (Kept s (room_in places) es) (sym due) (history_law s (room_in places) es net rates each), t.kept) }
 
 -- ---- three lists of calls
-module _ {s : Setting} {calls : List Call} {before after : List made.Answer} {places places-after : List Line} {last : Answer} (w : WorkedThrough s calls before after places places-after last) where
+module _ {s : Setting} {calls : List Call} {before after : List made.Answer} {places places_after : List Line} {last : Answer} (w : WorkedThrough s calls before after places places_after last) where
   given_due : (m k : ℕ) → last ≡ given m k → margin_answer s (standing (events calls after)) ≡ given m k
   given_due m k e =
       ⊎_elim (λ l. let r = (w.too_few l).0 in let z : ◌≡◌ {A = ℕ} 0 1 = cc in absurd (omega arith)) (λ l. sym (w.kept l).0.last_due ∙ e) (cases_lt (length before) (length calls))

@@ -14,7 +14,8 @@ pub trait NettingRule {
     /// The titles charged, for a position of at most 2,000,000 titles together.
     fn charge(&self, bought: Titles, sold: Titles) -> Titles
         requires { bought.count + sold.count ≤ 2000000 }
-        ensures answer { result.count ≡ charged self.now bought.count sold.count };
+        ensures answer { result.count ≡ charged self.now bought.count sold.count }
+        ensures unchanged { self.exit.now ≡ self.entry.now };
 
     ghost nets: { (rule : Self) → Netting (charged rule) };
 }

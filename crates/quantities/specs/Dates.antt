@@ -15,7 +15,7 @@ is_past today date = nat_le date today
 
 -- a date that is in its days, refused elsewhere
 abbrev pub dated : Bool → ℕ → Result ℕ ℕ
-dated in-its-days n = cond in-its-days (Ok n) (Err 7)
+dated in_its_days n = cond in_its_days (Ok n) (Err 7)
 
 -- the term of a trade
 abbrev pub trade_term : ℕ → ℕ → Result ℕ ℕ

@@ -42,18 +42,18 @@ no_percentage : (o : Option Percentage) → None ≡ option_map (λ p. p.percent
 no_percentage (Some p) e = let z : ◌≡◌ {A = ℕ} 0 1 = cc in absurd (omega arith)
 no_percentage None e = refl
 
-module _ (s : Setting) (i : Isin) (p : Price) (found-price : Some p ≡ price_for s i) (d life : ℕ) (is-today : d ≡ s.today) (lives : life ≡ residual_life d p.maturity) where
+module _ (s : Setting) (i : Isin) (p : Price) (found_price : Some p ≡ price_for s i) (d life : ℕ) (is_today : d ≡ s.today) (lives : life ≡ residual_life d p.maturity) where
   priced : has_price s i ≡ true
-  priced = found price_rank (isin_rank i) s.prices ∙ ap is_some (sym found-price)
+  priced = found price_rank (isin_rank i) s.prices ∙ ap is_some (sym found_price)
 
   worth : unit_price s i ≡ p.price.millionths
-  worth = ap (λ o. elim o [ Some p ↦ p.price.millionths | None ↦ 0 ]) (sym found-price)
+  worth = ap (λ o. elim o [ Some p ↦ p.price.millionths | None ↦ 0 ]) (sym found_price)
 
   matures : maturity s i ≡ p.maturity
-  matures = ap (λ o. elim o [ Some p ↦ p.maturity | None ↦ 0 ]) (sym found-price)
+  matures = ap (λ o. elim o [ Some p ↦ p.maturity | None ↦ 0 ]) (sym found_price)
 
   looked_up : found_by percentage_rank (tranche_of s i) s.percentages ≡ found_by percentage_rank (tranche life) s.percentages
-  looked_up = ap (λ m. found_by percentage_rank (tranche (residual_life s.today m)) s.percentages) matures ∙ ap (λ n. found_by percentage_rank (tranche n) s.percentages) (sym (lives ∙ ap (λ n. residual_life n p.maturity) is-today))
+  looked_up = ap (λ m. found_by percentage_rank (tranche (residual_life s.today m)) s.percentages) matures ∙ ap (λ n. found_by percentage_rank (tranche n) s.percentages) (sym (lives ∙ ap (λ n. residual_life n p.maturity) is_today))
 
   ranked : has_percentage s i ≡ is_some (found_by percentage_rank (tranche life) s.percentages)
   ranked = found percentage_rank (tranche_of s i) s.percentages ∙ ap is_some looked_up

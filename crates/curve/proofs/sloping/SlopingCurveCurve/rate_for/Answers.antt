@@ -9,7 +9,7 @@ pub returns-in_default : goal.returns-in_default
 returns-in_default c =
     let ps = points_of c.args.self.now.points.now in
     let f = c.in_default.ensures ∙ ap first_of c.split_at.ensures.from in
-    record { answer = rw (le-ltb c.args.term (reach_of ps) (beyond ps c.args.term f)) refl }
+    record { answer = rw (le-ltb c.args.term (reach_of ps) (beyond ps c.args.term f)) refl; unchanged = refl }
 
 pub returns-then-next-term : goal.returns-then-next-term
 returns-then-next-term c =
@@ -17,7 +17,7 @@ returns-then-next-term c =
     let t = c.args.term in
     let q = c.in-Some.next in
     let f = c.in-Some.ensures ∙ ap first_of c.split_at.ensures.from in
-    record { answer = rw (lt-ltb t (reach_of ps) (reached ps t q c.args.self.now.points.now.ascends f), at_point ps t q f c.if-next-term.true) refl }
+    record { answer = rw (lt-ltb t (reach_of ps) (reached ps t q c.args.self.now.points.now.ascends f), at_point ps t q f c.if-next-term.true) refl; unchanged = refl }
 
 pub rate_between-requires : goal.rate_between-requires
 rate_between-requires c =
@@ -35,7 +35,7 @@ returns-in-Some-last_point c =
     let l = c.in-Some-last_point.ensures ∙ ap last_of c.split_at.ensures.below in
     let b = not_before ps t q f in
     let s = between_points ps t c.in-Some-last_point.previous q l f (omega (arith, c.if-next-term.false)) in
-    record { answer = rw (lt-ltb t (reach_of ps) (reached ps t q c.args.self.now.points.now.ascends f), s, c.rate_between.ensures) refl }
+    record { answer = rw (lt-ltb t (reach_of ps) (reached ps t q c.args.self.now.points.now.ascends f), s, c.rate_between.ensures) refl; unchanged = refl }
 
 pub returns-in-None : goal.returns-in-None
 returns-in-None c =
@@ -44,4 +44,4 @@ returns-in-None c =
     let q = c.in-Some.next in
     let f = c.in-Some.ensures ∙ ap first_of c.split_at.ensures.from in
     let l = c.in-None.ensures ∙ ap last_of c.split_at.ensures.below in
-    record { answer = rw (lt-ltb t (reach_of ps) (reached ps t q c.args.self.now.points.now.ascends f), before_first ps t q l f) refl }
+    record { answer = rw (lt-ltb t (reach_of ps) (reached ps t q c.args.self.now.points.now.ascends f), before_first ps t q l f) refl; unchanged = refl }

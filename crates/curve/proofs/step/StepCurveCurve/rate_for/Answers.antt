@@ -8,11 +8,11 @@ pub returns-in-None : goal.returns-in-None
 returns-in-None c =
     let ps = points_of c.args.self.now.points.now in
     let h = c.in-None.ensures ∙ ap first_of c.split_at.ensures.from in
-    record { answer = rw (le-ltb c.args.term (reach_of ps) (beyond ps c.args.term h)) refl }
+    record { answer = rw (le-ltb c.args.term (reach_of ps) (beyond ps c.args.term h)) refl; unchanged = refl }
 
 pub returns-in-Some : goal.returns-in-Some
 returns-in-Some c =
     let ps = points_of c.args.self.now.points.now in
     let t = c.args.term in
     let h = c.in-Some.ensures ∙ ap first_of c.split_at.ensures.from in
-    record { answer = rw (lt-ltb t (reach_of ps) (reached ps t c.in-Some.point c.args.self.now.points.now.ascends h), step_is ps t c.in-Some.point h) refl }
+    record { answer = rw (lt-ltb t (reach_of ps) (reached ps t c.in-Some.point c.args.self.now.points.now.ascends h), step_is ps t c.in-Some.point h) refl; unchanged = refl }
