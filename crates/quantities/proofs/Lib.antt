@@ -2,5 +2,4 @@ mod Bounds
 pub mod Decided
 mod Discounts
 pub mod Rounded
-mod Shapes
 mod Weights
