@@ -62,16 +62,34 @@ fn a_tranche_has_its_number(rt: HostRuntime) {
 
 #[test]
 fn isins_of_the_market_pass(rt: HostRuntime) {
-    assert!(rt; Isin::try_from(b"US0378331005").is_ok());
-    assert!(rt; Isin::try_from(b"DE000BASF111").is_ok());
-    assert!(rt; Isin::try_from(b"AU0000XVGZA3").is_ok());
-    assert_eq!(rt; Isin::try_from(b"US0378331006"), Err(Refusal::Value));
-    assert_eq!(rt; Isin::try_from(b"us0378331005"), Err(Refusal::Value));
-    assert_eq!(rt; Isin::try_from(b"US037833100"), Err(Refusal::Value));
-    assert_eq!(rt; Isin::try_from(b"US03783310050"), Err(Refusal::Value));
-    assert_eq!(rt; Isin::try_from(b"1S0378331005"), Err(Refusal::Value));
-    assert_eq!(rt; Isin::try_from(b"US037833100A"), Err(Refusal::Value));
-    assert_eq!(rt; Isin::try_from(b""), Err(Refusal::Value));
+    assert!(rt; Isin::try_from(b"US0378331005".as_slice()).is_ok());
+    assert!(rt; Isin::try_from(b"DE000BASF111".as_slice()).is_ok());
+    assert!(rt; Isin::try_from(b"AU0000XVGZA3".as_slice()).is_ok());
+    assert_eq!(rt;
+        Isin::try_from(b"US0378331006".as_slice()),
+        Err(Refusal::Value)
+    );
+    assert_eq!(rt;
+        Isin::try_from(b"us0378331005".as_slice()),
+        Err(Refusal::Value)
+    );
+    assert_eq!(rt;
+        Isin::try_from(b"US037833100".as_slice()),
+        Err(Refusal::Value)
+    );
+    assert_eq!(rt;
+        Isin::try_from(b"US03783310050".as_slice()),
+        Err(Refusal::Value)
+    );
+    assert_eq!(rt;
+        Isin::try_from(b"1S0378331005".as_slice()),
+        Err(Refusal::Value)
+    );
+    assert_eq!(rt;
+        Isin::try_from(b"US037833100A".as_slice()),
+        Err(Refusal::Value)
+    );
+    assert_eq!(rt; Isin::try_from(b"".as_slice()), Err(Refusal::Value));
 }
 
 #[test]
