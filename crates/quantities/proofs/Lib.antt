@@ -1,6 +1,3 @@
-mod Bounds
 pub mod Decided
-mod Discounts
 pub mod Rounded
-mod Shapes
 mod Weights

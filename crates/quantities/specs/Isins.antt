@@ -1,7 +1,6 @@
 -- The ISIN of ISO 6166. Cells hold bytes: 48 to 57 are the digits 0 to 9, 65 to 90 the letters A to Z.
-use Rattle.std.specs.Prelude.{ℕ, ◌+◌, ◌-◌, ◌*◌, ◌/◌, ◌%◌, Bool, true, cond, ◌&&◌, ◌||◌, List, [], ◌∷◌, reverse, length, take, drop, Ok, Err, Result, ◌==◌, nat_le}
-use Rattle.quantities.specs.declared.isin.Class.{Class}
-use Rattle.quantities.specs.declared.isin.Class.TheVariants.{Letter, LetterOrDigit, Digit}
+use Rattle.std.specs.Prelude.{ℕ, ◌+◌, ◌-◌, ◌*◌, ◌/◌, ◌%◌, Bool, cond, ◌&&◌, ◌||◌, List, [], ◌∷◌, reverse, length, take, drop, Ok, Err, Result, ◌==◌, nat_le}
+use Rattle.std.specs.List.{list_all}
 
 abbrev pub is_letter : ℕ → Bool
 is_letter b = nat_le 65 b && nat_le b 90
@@ -12,17 +11,13 @@ is_digit b = nat_le 48 b && nat_le b 57
 abbrev pub is_letter_or_digit : ℕ → Bool
 is_letter_or_digit b = is_letter b || is_digit b
 
-abbrev pub all : (ℕ → Bool) → List ℕ → Bool
-all p [] = true
-all p (b ∷ bs) = p b && all p bs
-
 -- two letters, nine letters or digits, one digit
 abbrev pub isin_shaped : List ℕ → Bool
 isin_shaped cell =
     (length cell == 12)
-    && (all is_letter (take 2 cell)
-    && (all is_letter_or_digit (take 9 (drop 2 cell))
-    && all is_digit (take 1 (drop 11 cell))))
+    && (list_all is_letter (take 2 cell)
+    && (list_all is_letter_or_digit (take 9 (drop 2 cell))
+    && list_all is_digit (take 1 (drop 11 cell))))
 
 -- digits stay, letters become 10 to 35, and all is written out as digits
 abbrev pub written_out : List ℕ → List ℕ
@@ -50,9 +45,3 @@ is_isin cell = isin_shaped cell && check_sum cell % 10 == 0
 -- a cell that holds an ISIN, refused elsewhere
 abbrev pub isin_in : List ℕ → Result (List ℕ) ℕ
 isin_in cell = cond (is_isin cell) (Ok cell) (Err 4)
-
--- what may stand at a place
-abbrev pub in_class : Class → ℕ → Bool
-in_class Letter b = is_letter b
-in_class LetterOrDigit b = is_letter_or_digit b
-in_class Digit b = is_digit b

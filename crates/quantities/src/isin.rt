@@ -1,7 +1,7 @@
 //! The ISIN of ISO 6166: two letters, nine letters or digits, and a check digit.
 ghost use Rattle.std.specs.Prelude.{◌≡◌, ◌+◌, ◌*◌, ◌/◌, ◌%◌, ◌≤◌, if◌then◌else◌};
 ghost use Rattle.quantities.specs.Checked.{told};
-ghost use Rattle.quantities.specs.Isins.{all, in_class, is_letter, is_digit, isin_shaped, check_sum, is_isin, isin_in};
+ghost use Rattle.quantities.specs.Isins.{isin_shaped, check_sum, is_isin, isin_in};
 
 use crate::refusal::Refusal;
 use std::fmt;
@@ -10,61 +10,19 @@ use std::fmt;
 pub const LENGTH: usize = 12;
 
 /// Twelve bytes in the place of an ISIN.
-#[derive(Clone, Copy, PartialEq, Eq, Debug)]
+#[derive(Clone, Copy, Debug, PartialEq, Eq, Hash, PartialOrd, Ord)]
 pub struct Isin {
     pub bytes: [u8; 12],
-}
-
-// What may stand at a place.
-#[derive(Clone, Copy)]
-enum Class {
-    Letter,
-    LetterOrDigit,
-    Digit,
-}
-
-impl Class {
-    fn has(self, byte: u8) -> bool
-        ensures { result ≡ in_class self byte }
-    {
-        match self {
-            Class::Letter => is_letter(byte),
-            Class::LetterOrDigit => is_letter(byte) || is_digit(byte),
-            Class::Digit => is_digit(byte),
-        }
-    }
-
-    fn has_all(self, bytes: &[u8]) -> bool
-        ensures { result ≡ all (in_class self) bytes.now }
-    {
-        for byte in bytes {
-            if !self.has(*byte) {
-                return false;
-            }
-        }
-        true
-    }
-}
-
-fn is_letter(byte: u8) -> bool
-    ensures { result ≡ is_letter byte }
-{
-    matches!(byte, b'A'..=b'Z')
-}
-
-fn is_digit(byte: u8) -> bool
-    ensures { result ≡ is_digit byte }
-{
-    matches!(byte, b'0'..=b'9')
 }
 
 fn is_shaped(bytes: &[u8; 12]) -> bool
     ensures { result ≡ isin_shaped bytes.now }
 {
-    let country = Class::Letter.has_all(&bytes[0..2]);
-    let security = Class::LetterOrDigit.has_all(&bytes[2..11]);
-    let check_digit = Class::Digit.has_all(&bytes[11..12]);
-    country && security && check_digit
+    let country = bytes[..2].iter().all(u8::is_ascii_uppercase);
+    let security = bytes[2..11]
+        .iter()
+        .all(|byte| byte.is_ascii_uppercase() || byte.is_ascii_digit());
+    country && security && bytes[11].is_ascii_digit()
 }
 
 // The digits of a number below 100, or of its double.
@@ -85,9 +43,8 @@ fn check_sum(bytes: &[u8; 12]) -> u32
 {
     let mut sum = 0;
     let mut doubled = false;
-    for place in (0..LENGTH).rev() {
-        let byte = bytes[place];
-        if is_digit(byte) {
+    for &byte in bytes.iter().rev() {
+        if byte.is_ascii_digit() {
             sum += weight(byte - b'0', doubled);
             doubled = !doubled;
         } else {
@@ -106,16 +63,16 @@ impl Isin {
     {
         is_shaped(&self.bytes) && check_sum(&self.bytes) % 10 == 0
     }
+}
 
-    /// The ISIN that a cell holds.
-    pub fn read(cell: &[u8]) -> Result<Isin, Refusal>
-        ensures { told (λ i. i.bytes) result ≡ isin_in cell.now }
-    {
-        if cell.len() != LENGTH {
-            return Err(Refusal::Value);
-        }
-        let mut bytes = [0; LENGTH];
-        bytes.copy_from_slice(cell);
+/// The ISIN that a cell holds.
+impl TryFrom<&[u8]> for Isin {
+    type Error = Refusal;
+
+    ghost try_from_gives = { λ cell result. told (λ isin. isin.bytes) result ≡ isin_in cell.now };
+
+    fn try_from(cell: &[u8]) -> Result<Isin, Refusal> {
+        let bytes = <[u8; LENGTH]>::try_from(cell).map_err(|_| Refusal::Value)?;
         let isin = Isin { bytes };
         if isin.is_valid() {
             Ok(isin)

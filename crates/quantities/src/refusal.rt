@@ -2,10 +2,11 @@
 ghost use Rattle.std.specs.Prelude.{◌≡◌};
 ghost use Rattle.quantities.specs.Refusals.{number, TellsApart};
 
+use std::error::Error;
 use std::fmt;
 
 /// Every refusal of the engine; its number is part of the formats.
-#[derive(Clone, Copy, PartialEq, Eq, Debug)]
+#[derive(Clone, Copy, Debug, PartialEq, Eq, Hash)]
 pub enum Refusal {
     /// A sheet's first line lacks the awaited mark or a version that is read.
     Mark = 1,
@@ -45,10 +46,11 @@ impl Refusal {
     {
         self as u8
     }
+}
 
-    // What a person is told.
-    fn words(self) -> &'static str {
-        match self {
+impl fmt::Display for Refusal {
+    fn fmt<W: fmt::Write>(&self, f: &mut fmt::Formatter<W>) -> fmt::Result {
+        f.write_str(match self {
             Refusal::Mark => "the first line lacks the awaited mark or a version that is read",
             Refusal::Columns =>
                 "a needed column is missing or named twice, or there are too many columns",
@@ -64,13 +66,8 @@ impl Refusal {
             Refusal::NoRate => "the curve has no rate for the term",
             Refusal::NotStanding => "no line stands under the reference",
             Refusal::TooLong => "the input or the statement is too long",
-        }
+        })
     }
 }
 
-impl fmt::Display for Refusal {
-    fn fmt<W: fmt::Write>(&self, f: &mut fmt::Formatter<W>) -> fmt::Result {
-        let words = self.words();
-        write!(f, "{words}")
-    }
-}
+impl Error for Refusal {}

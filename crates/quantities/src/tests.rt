@@ -8,18 +8,20 @@ use crate::tranche::*;
 
 #[test]
 fn ranges_end_where_they_should(rt: HostRuntime) {
-    assert!(rt; Cash::new(0).is_ok() && Cash::new(1_000_000_000_000).is_ok());
-    assert_eq!(rt; Cash::new(1_000_000_000_001), Err(Refusal::Value));
-    assert!(rt; Titles::new(0).is_ok() && Titles::new(2_000_000).is_ok());
-    assert_eq!(rt; Titles::new(2_000_001), Err(Refusal::Value));
-    assert_eq!(rt; UnitPrice::new(0), Err(Refusal::Value));
-    assert!(rt; UnitPrice::new(1).is_ok() && UnitPrice::new(2_000_000).is_ok());
-    assert_eq!(rt; UnitPrice::new(2_000_001), Err(Refusal::Value));
-    assert_eq!(rt; Rate::new(-501), Err(Refusal::Value));
-    assert!(rt; Rate::new(-500).is_ok() && Rate::new(3_000).is_ok());
-    assert_eq!(rt; Rate::new(3_001), Err(Refusal::Value));
-    assert!(rt; MarginPercentage::new(0).is_ok() && MarginPercentage::new(10_000).is_ok());
-    assert_eq!(rt; MarginPercentage::new(10_001), Err(Refusal::Value));
+    assert!(rt; Cash::try_from(0).is_ok() && Cash::try_from(1_000_000_000_000).is_ok());
+    assert_eq!(rt; Cash::try_from(1_000_000_000_001), Err(Refusal::Value));
+    assert!(rt; Titles::try_from(0).is_ok() && Titles::try_from(2_000_000).is_ok());
+    assert_eq!(rt; Titles::try_from(2_000_001), Err(Refusal::Value));
+    assert_eq!(rt; UnitPrice::try_from(0), Err(Refusal::Value));
+    assert!(rt; UnitPrice::try_from(1).is_ok() && UnitPrice::try_from(2_000_000).is_ok());
+    assert_eq!(rt; UnitPrice::try_from(2_000_001), Err(Refusal::Value));
+    assert_eq!(rt; Rate::try_from(-501), Err(Refusal::Value));
+    assert!(rt; Rate::try_from(-500).is_ok() && Rate::try_from(3_000).is_ok());
+    assert_eq!(rt; Rate::try_from(3_001), Err(Refusal::Value));
+    assert!(rt;
+        MarginPercentage::try_from(0).is_ok() && MarginPercentage::try_from(10_000).is_ok()
+    );
+    assert_eq!(rt; MarginPercentage::try_from(10_001), Err(Refusal::Value));
 }
 
 #[test]
@@ -40,36 +42,54 @@ fn dates_end_where_they_should(rt: HostRuntime) {
 
 #[test]
 fn tranches_end_where_they_should(rt: HostRuntime) {
-    assert_eq!(rt; Tranche::of_life(0).number(), 1);
-    assert_eq!(rt; Tranche::of_life(1_095).number(), 2);
-    assert_eq!(rt; Tranche::of_life(1_096).number(), 3);
-    assert_eq!(rt; Tranche::of_life(1_825).number(), 3);
-    assert_eq!(rt; Tranche::of_life(1_826).number(), 4);
-    assert_eq!(rt; Tranche::of_life(3_650).number(), 4);
-    assert_eq!(rt; Tranche::of_life(3_651).number(), 5);
-    assert_eq!(rt; Tranche::of_life(65_535).number(), 6);
+    assert_eq!(rt; u8::from(Tranche::of_life(0)), 1);
+    assert_eq!(rt; u8::from(Tranche::of_life(1_095)), 2);
+    assert_eq!(rt; u8::from(Tranche::of_life(1_096)), 3);
+    assert_eq!(rt; u8::from(Tranche::of_life(1_825)), 3);
+    assert_eq!(rt; u8::from(Tranche::of_life(1_826)), 4);
+    assert_eq!(rt; u8::from(Tranche::of_life(3_650)), 4);
+    assert_eq!(rt; u8::from(Tranche::of_life(3_651)), 5);
+    assert_eq!(rt; u8::from(Tranche::of_life(65_535)), 6);
 }
 
 #[test]
 fn a_tranche_has_its_number(rt: HostRuntime) {
-    assert_eq!(rt; Tranche::new(0), Err(Refusal::Value));
-    assert_eq!(rt; Tranche::new(1), Ok(Tranche::UpToOneYear));
-    assert_eq!(rt; Tranche::new(6), Ok(Tranche::OverTwentyYears));
-    assert_eq!(rt; Tranche::new(7), Err(Refusal::Value));
+    assert_eq!(rt; Tranche::try_from(0), Err(Refusal::Value));
+    assert_eq!(rt; Tranche::try_from(1), Ok(Tranche::UpToOneYear));
+    assert_eq!(rt; Tranche::try_from(6), Ok(Tranche::OverTwentyYears));
+    assert_eq!(rt; Tranche::try_from(7), Err(Refusal::Value));
 }
 
 #[test]
 fn isins_of_the_market_pass(rt: HostRuntime) {
-    assert!(rt; Isin::read(b"US0378331005").is_ok());
-    assert!(rt; Isin::read(b"DE000BASF111").is_ok());
-    assert!(rt; Isin::read(b"AU0000XVGZA3").is_ok());
-    assert_eq!(rt; Isin::read(b"US0378331006"), Err(Refusal::Value));
-    assert_eq!(rt; Isin::read(b"us0378331005"), Err(Refusal::Value));
-    assert_eq!(rt; Isin::read(b"US037833100"), Err(Refusal::Value));
-    assert_eq!(rt; Isin::read(b"US03783310050"), Err(Refusal::Value));
-    assert_eq!(rt; Isin::read(b"1S0378331005"), Err(Refusal::Value));
-    assert_eq!(rt; Isin::read(b"US037833100A"), Err(Refusal::Value));
-    assert_eq!(rt; Isin::read(b""), Err(Refusal::Value));
+    assert!(rt; Isin::try_from(b"US0378331005".as_slice()).is_ok());
+    assert!(rt; Isin::try_from(b"DE000BASF111".as_slice()).is_ok());
+    assert!(rt; Isin::try_from(b"AU0000XVGZA3".as_slice()).is_ok());
+    assert_eq!(rt;
+        Isin::try_from(b"US0378331006".as_slice()),
+        Err(Refusal::Value)
+    );
+    assert_eq!(rt;
+        Isin::try_from(b"us0378331005".as_slice()),
+        Err(Refusal::Value)
+    );
+    assert_eq!(rt;
+        Isin::try_from(b"US037833100".as_slice()),
+        Err(Refusal::Value)
+    );
+    assert_eq!(rt;
+        Isin::try_from(b"US03783310050".as_slice()),
+        Err(Refusal::Value)
+    );
+    assert_eq!(rt;
+        Isin::try_from(b"1S0378331005".as_slice()),
+        Err(Refusal::Value)
+    );
+    assert_eq!(rt;
+        Isin::try_from(b"US037833100A".as_slice()),
+        Err(Refusal::Value)
+    );
+    assert_eq!(rt; Isin::try_from(b"".as_slice()), Err(Refusal::Value));
 }
 
 #[test]

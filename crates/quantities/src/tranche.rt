@@ -5,7 +5,8 @@ ghost use Rattle.quantities.specs.Tranches.{tranche_number, tranche};
 
 use crate::refusal::Refusal;
 
-#[derive(Clone, Copy, PartialEq, Eq, Debug)]
+/// The six tranches, by their numbers.
+#[derive(Clone, Copy, Debug, PartialEq, Eq, Hash, PartialOrd, Ord)]
 pub enum Tranche {
     UpToOneYear = 1,
     UpToThreeYears = 2,
@@ -15,11 +16,12 @@ pub enum Tranche {
     OverTwentyYears = 6,
 }
 
-impl Tranche {
-    /// The tranche of that number, which is 1 to 6.
-    pub fn new(number: u8) -> Result<Tranche, Refusal>
-        ensures { told tranche_number result ≡ checked 1 6 number }
-    {
+impl TryFrom<u8> for Tranche {
+    type Error = Refusal;
+
+    ghost try_from_gives = { λ number result. told tranche_number result ≡ checked 1 6 number };
+
+    fn try_from(number: u8) -> Result<Tranche, Refusal> {
         match number {
             1 => Ok(Tranche::UpToOneYear),
             2 => Ok(Tranche::UpToThreeYears),
@@ -30,7 +32,17 @@ impl Tranche {
             _ => Err(Refusal::Value),
         }
     }
+}
 
+impl From<Tranche> for u8 {
+    ghost from_gives = { λ tranche number. number ≡ tranche_number tranche };
+
+    fn from(tranche: Tranche) -> u8 {
+        tranche as u8
+    }
+}
+
+impl Tranche {
     /// The tranche of a residual life in days.
     pub fn of_life(days: u16) -> Tranche
         ensures { tranche_number result ≡ tranche days }
@@ -43,12 +55,5 @@ impl Tranche {
             3_651..=7_300 => Tranche::UpToTwentyYears,
             _ => Tranche::OverTwentyYears,
         }
-    }
-
-    /// Its number, 1 to 6.
-    pub fn number(self) -> u8
-        ensures { result ≡ tranche_number self }
-    {
-        self as u8
     }
 }
