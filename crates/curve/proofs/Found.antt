@@ -1,9 +1,9 @@
 -- Where a term falls among points that ascend.
-use Rattle.std.proofs.Common.{◌≡◌, ℕ, suc, ◌+◌, ◌-◌, ◌<◌, ◌≤◌, List, [], ◌∷◌, length, get_or, Some, None, Option, sym, refl, ap, ◌∙◌, ⊎_elim, arith}
+use Rattle.std.proofs.Common.{◌≡◌, ℕ, suc, ◌+◌, ◌-◌, ◌<◌, ◌≤◌, List, [], ◌∷◌, length, slice_get, Some, None, Option, sym, refl, ap, ◌∙◌, ⊎_elim, arith}
 use Rattle.std.proofs.lemmas.Bool.{cases_lt, lt-ltb, le-ltb, le-leb, lt-leb}
 use Rattle.register.specs.Keys.{Ascends, from_rank}
 use Rattle.curve.specs.declared.point.Point.{Point}
-use Rattle.curve.specs.Points.{reach_of, step_rate, first_of, last_of}
+use Rattle.curve.specs.Points.{reach_of, step_rate}
 
 abbrev pub term_of : Point → ℕ
 term_of p = p.term
@@ -12,10 +12,10 @@ pub tail_ascends : (p : Point) (ps : List Point) → Ascends term_of (p ∷ ps) 
 tail_ascends p ps up k d h = let e : suc k + 1 ≡ suc (k + 1) = omega arith in (rw e at (up (suc k) d (omega arith)))
 
 -- the first point from a term on is this one, or a later one
-pub first_here : (p : Point) (ps : List Point) (t : ℕ) → t ≤ p.term → first_of (from_rank term_of t (p ∷ ps)) ≡ Some p
+pub first_here : (p : Point) (ps : List Point) (t : ℕ) → t ≤ p.term → slice_get (from_rank term_of t (p ∷ ps)) 0 ≡ Some p
 first_here p ps t h = rw (le-ltb p.term t h) refl
 
-pub first_later : (p : Point) (ps : List Point) (t : ℕ) → p.term < t → first_of (from_rank term_of t (p ∷ ps)) ≡ first_of (from_rank term_of t ps)
+pub first_later : (p : Point) (ps : List Point) (t : ℕ) → p.term < t → slice_get (from_rank term_of t (p ∷ ps)) 0 ≡ slice_get (from_rank term_of t ps) 0
 first_later p ps t h = rw (lt-ltb p.term t h) refl
 
 pub none_some : (P : Type 0) (q : Point) → ◌≡◌ {A = Option Point} None (Some q) → P
@@ -30,7 +30,7 @@ above_first p (q ∷ qs) up =
     omega arith
 
 -- a term beyond every point is not below the reach
-pub beyond : (ps : List Point) (t : ℕ) → None ≡ first_of (from_rank term_of t ps) → reach_of ps ≤ t
+pub beyond : (ps : List Point) (t : ℕ) → None ≡ slice_get (from_rank term_of t ps) 0 → reach_of ps ≤ t
 beyond [] t h = omega arith
 beyond (p ∷ []) t h =
     ⊎_elim (λ (l : p.term < t). omega arith) (λ (l : t ≤ p.term). none_some _ p (h ∙ first_here p [] t l)) (cases_lt p.term t)
@@ -40,7 +40,7 @@ beyond (p ∷ (q ∷ qs)) t h =
     (cases_lt p.term t)
 
 -- a term with a point from it on is below the reach
-pub reached : (ps : List Point) (t : ℕ) (q : Point) → Ascends term_of ps → Some q ≡ first_of (from_rank term_of t ps) → t < reach_of ps
+pub reached : (ps : List Point) (t : ℕ) (q : Point) → Ascends term_of ps → Some q ≡ slice_get (from_rank term_of t ps) 0 → t < reach_of ps
 reached [] t q up h = none_some _ q (sym h)
 reached (p ∷ []) t q up h =
     ⊎_elim (λ (l : p.term < t). none_some _ q (sym (h ∙ first_later p [] t l))) (λ (l : t ≤ p.term). omega arith) (cases_lt p.term t)
@@ -50,7 +50,7 @@ reached (p ∷ (r ∷ rs)) t q up h =
     (cases_lt p.term t)
 
 -- the step curve's rate is that of the first point from the term on
-pub step_is : (ps : List Point) (t : ℕ) (q : Point) → Some q ≡ first_of (from_rank term_of t ps) → step_rate ps t ≡ q.rate.basis_points
+pub step_is : (ps : List Point) (t : ℕ) (q : Point) → Some q ≡ slice_get (from_rank term_of t ps) 0 → step_rate ps t ≡ q.rate.basis_points
 step_is [] t q h = none_some _ q (sym h)
 step_is (p ∷ ps) t q h =
     ⊎_elim (λ (l : p.term < t). rw (lt-leb t p.term l) (step_is ps t q (h ∙ first_later p ps t l)))
@@ -59,13 +59,15 @@ step_is (p ∷ ps) t q h =
     rw (le-leb t p.term l) (ap (λ x. x.rate.basis_points) (sym s)))
     (cases_lt p.term t)
 
-pub last_none : (ps : List Point) → length ps ≡ 0 → None ≡ last_of ps
-last_none [] h = refl
-last_none (p ∷ ps) h = absurd (omega arith)
+-- the last of points
+abbrev pub last_of : List Point → Option Point
+last_of [] = None
+last_of (p ∷ []) = Some p
+last_of (p ∷ (q ∷ qs)) = last_of (q ∷ qs)
 
-pub last_some : (ps : List Point) (q : Point) → 0 < length ps → q ≡ get_or ps (length ps - 1) q → Some q ≡ last_of ps
-last_some [] q h e = absurd (omega arith)
-last_some (p ∷ []) q h e = ap (λ x. Some x) e
-last_some (p ∷ (r ∷ rs)) q h e =
-    let k : length (p ∷ (r ∷ rs)) - 1 ≡ suc (length (r ∷ rs) - 1) = omega arith in
-    last_some (r ∷ rs) q (omega arith) (e ∙ ap (λ n. get_or (p ∷ (r ∷ rs)) n q) k)
+pub last_is : (ps : List Point) → slice_get ps (length ps - 1) ≡ last_of ps
+last_is [] = refl
+last_is (p ∷ []) = refl
+last_is (p ∷ (q ∷ qs)) =
+    let e : length (p ∷ (q ∷ qs)) - 1 ≡ suc (length (q ∷ qs) - 1) = omega arith in
+    rw e (last_is (q ∷ qs))

@@ -1,10 +1,10 @@
 -- The sloping curve's rate, by the last point below a term and the first one from it on.
-use Rattle.std.proofs.Common.{◌≡◌, ℕ, ◌<◌, ◌≤◌, List, [], ◌∷◌, Some, None, sym, refl, ap, ◌∙◌, ⊎_elim, arith}
+use Rattle.std.proofs.Common.{◌≡◌, ℕ, ◌<◌, ◌≤◌, List, [], ◌∷◌, slice_get, Some, None, sym, refl, ap, ◌∙◌, ⊎_elim, arith}
 use Rattle.std.proofs.lemmas.Bool.{cases_lt, lt-ltb, le-ltb, le-leb, lt-leb, eq-eqb, ne_eqb}
 use Rattle.register.specs.Keys.{below_rank, from_rank}
 use Rattle.curve.specs.declared.point.Point.{Point}
-use Rattle.curve.specs.Points.{between, slope_after, sloping_rate, first_of, last_of}
-use Rattle.curve.proofs.Found.{term_of, first_here, first_later, none_some}
+use Rattle.curve.specs.Points.{between, slope_after, sloping_rate}
+use Rattle.curve.proofs.Found.{term_of, last_of, first_here, first_later, none_some}
 
 same_point : (p q : Point) → Some p ≡ Some q → p ≡ q
 same_point p q e = cc
@@ -20,7 +20,7 @@ never_none : (P : Type 0) (p : Point) (ps : List Point) → None ≡ last_of (p 
 never_none P p [] e = none_some P p e
 never_none P p (q ∷ qs) e = never_none P q qs e
 
-pub not_before : (ps : List Point) (t : ℕ) (q : Point) → Some q ≡ first_of (from_rank term_of t ps) → t ≤ q.term
+pub not_before : (ps : List Point) (t : ℕ) (q : Point) → Some q ≡ slice_get (from_rank term_of t ps) 0 → t ≤ q.term
 not_before [] t q h = none_some _ q (sym h)
 not_before (p ∷ ps) t q h =
     ⊎_elim (λ (l : p.term < t). not_before ps t q (h ∙ first_later p ps t l))
@@ -42,7 +42,7 @@ last_below (x ∷ xs) t p h =
     (cases_lt x.term t)
 
 -- past a point x, at the term of the next one
-slope_at : (x : Point) (ps : List Point) (t : ℕ) (q : Point) → Some q ≡ first_of (from_rank term_of t ps) → q.term ≡ t → slope_after x ps t ≡ q.rate.basis_points
+slope_at : (x : Point) (ps : List Point) (t : ℕ) (q : Point) → Some q ≡ slice_get (from_rank term_of t ps) 0 → q.term ≡ t → slope_after x ps t ≡ q.rate.basis_points
 slope_at x [] t q h e = none_some _ q (sym h)
 slope_at x (y ∷ ys) t q h e =
     ⊎_elim
@@ -53,14 +53,14 @@ slope_at x (y ∷ ys) t q h e =
     rw (le-ltb t y.term (omega arith), eq-eqb t y.term z) (ap (λ p. p.rate.basis_points) (sym s)))
     (cases_lt y.term t)
 
-pub at_point : (ps : List Point) (t : ℕ) (q : Point) → Some q ≡ first_of (from_rank term_of t ps) → q.term ≡ t → sloping_rate ps t ≡ q.rate.basis_points
+pub at_point : (ps : List Point) (t : ℕ) (q : Point) → Some q ≡ slice_get (from_rank term_of t ps) 0 → q.term ≡ t → sloping_rate ps t ≡ q.rate.basis_points
 at_point [] t q h e = none_some _ q (sym h)
 at_point (p ∷ ps) t q h e =
     ⊎_elim (λ (k : p.term < t). rw (lt-leb t p.term k) (slope_at p ps t q (h ∙ first_later p ps t k) e))
     (λ (k : t ≤ p.term). let s = same_point q p (h ∙ first_here p ps t k) in rw (le-leb t p.term k) (ap (λ x. x.rate.basis_points) (sym s)))
     (cases_lt p.term t)
 
-pub before_first : (ps : List Point) (t : ℕ) (q : Point) → None ≡ last_of (below_rank term_of t ps) → Some q ≡ first_of (from_rank term_of t ps) → sloping_rate ps t ≡ q.rate.basis_points
+pub before_first : (ps : List Point) (t : ℕ) (q : Point) → None ≡ last_of (below_rank term_of t ps) → Some q ≡ slice_get (from_rank term_of t ps) 0 → sloping_rate ps t ≡ q.rate.basis_points
 before_first [] t q n h = none_some _ q (sym h)
 before_first (p ∷ ps) t q n h =
     ⊎_elim (λ (k : p.term < t). never_none _ p (below_rank term_of t ps) (n ∙ ap last_of (below_more p ps t k)))
@@ -68,7 +68,7 @@ before_first (p ∷ ps) t q n h =
     (cases_lt p.term t)
 
 -- past a point x, below the next one
-slope_between : (x : Point) (ps : List Point) (t : ℕ) (p q : Point) → Some p ≡ last_of (x ∷ below_rank term_of t ps) → Some q ≡ first_of (from_rank term_of t ps) → t < q.term → slope_after x ps t ≡ between p q t
+slope_between : (x : Point) (ps : List Point) (t : ℕ) (p q : Point) → Some p ≡ last_of (x ∷ below_rank term_of t ps) → Some q ≡ slice_get (from_rank term_of t ps) 0 → t < q.term → slope_after x ps t ≡ between p q t
 slope_between x [] t p q h f l = none_some _ q (sym f)
 slope_between x (y ∷ ys) t p q h f l =
     ⊎_elim
@@ -82,7 +82,7 @@ slope_between x (y ∷ ys) t p q h f l =
     rw (lt-ltb t y.term (omega arith)) (ap (λ u. between u y t) (sym r) ∙ ap (λ u. between p u t) (sym s)))
     (cases_lt y.term t)
 
-pub between_points : (ps : List Point) (t : ℕ) (p q : Point) → Some p ≡ last_of (below_rank term_of t ps) → Some q ≡ first_of (from_rank term_of t ps) → t < q.term → sloping_rate ps t ≡ between p q t
+pub between_points : (ps : List Point) (t : ℕ) (p q : Point) → Some p ≡ last_of (below_rank term_of t ps) → Some q ≡ slice_get (from_rank term_of t ps) 0 → t < q.term → sloping_rate ps t ≡ between p q t
 between_points [] t p q h f l = none_some _ q (sym f)
 between_points (x ∷ xs) t p q h f l =
     ⊎_elim (λ (k : x.term < t). rw (lt-leb t x.term k) (slope_between x xs t p q (h ∙ ap last_of (below_more x xs t k)) (f ∙ first_later x xs t k) l))

@@ -1,4 +1,4 @@
--- The rates of both curves stay within their bounds.
+-- The rates of both curves stay within their bounds. Here and not in proofs, since an impl cites the proof of its law from specs alone.
 use Rattle.std.specs.Prelude.{◌≡◌, ℕ, ◌-◌, ◌<◌, ◌≤◌, Bool, true, false, cond, List, [], ◌∷◌, ℤ, pos, negsuc, ◌-ℤ◌, ◌*ℤ◌, ◌≤ℤ◌, nat_le, refl}
 use Rattle.std.proofs.Common.{arith, ⊎_elim}
 use Rattle.std.specs.Int.Signed.{le_z_yes}

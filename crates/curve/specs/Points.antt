@@ -1,20 +1,15 @@
 -- The points of a curve, by term.
-use Rattle.std.specs.Prelude.{◌≡◌, ℕ, ◌+◌, ◌-◌, Bool, true, false, cond, ◌&&◌, List, [], ◌∷◌, ℤ, pos, ◌+ℤ◌, ◌-ℤ◌, ◌*ℤ◌, Some, None, Option, Result, ◌==◌, int_le, nat_le, nat_lt}
+use Rattle.std.specs.Prelude.{◌≡◌, ℕ, ◌+◌, ◌-◌, Bool, true, false, cond, ◌&&◌, List, [], ◌∷◌, ℤ, pos, ◌+ℤ◌, ◌-ℤ◌, ◌*ℤ◌, Result, ◌==◌, int_le, nat_le, nat_lt}
 use Rattle.quantities.specs.declared.refusal.Refusal.{Refusal}
 use Rattle.quantities.specs.Refusals.{Refused}
 use Rattle.quantities.specs.Ranges.{lowest_rate, highest_rate}
 use Rattle.quantities.specs.Rounding.{round_down_signed}
 use Rattle.register.specs.Changes.{Inserts}
-use Rattle.register.specs.Contents.{records_of}
 use Rattle.curve.specs.declared.point.Point.{Point}
-use Rattle.curve.specs.declared.point.points.Points.{Points}
 
 -- a rate within its range
 abbrev pub rate_fits : ℤ → Bool
 rate_fits rate = int_le lowest_rate rate && int_le rate highest_rate
-
-abbrev pub points_of : Points → List Point
-points_of g = records_of g.list
 
 -- a point with that term and rate
 abbrev pub IsPoint : ℕ → ℤ → Point → Type 0
@@ -53,12 +48,3 @@ slope_after p (q ∷ qs) term =
 abbrev pub sloping_rate : List Point → ℕ → ℤ
 sloping_rate [] term = pos 0
 sloping_rate (p ∷ ps) term = cond (nat_le term p.term) p.rate.basis_points (slope_after p ps term)
-
-abbrev pub first_of : List Point → Option Point
-first_of [] = None
-first_of (p ∷ ps) = Some p
-
-abbrev pub last_of : List Point → Option Point
-last_of [] = None
-last_of (p ∷ []) = Some p
-last_of (p ∷ (q ∷ qs)) = last_of (q ∷ qs)

@@ -18,12 +18,12 @@ pub trait Curve {
 
     ghost rate: { Self → ℕ → ℤ };
 
-    ghost discounting: { (curve : Self) → Discounting (reach curve) (rate curve) };
-
     /// The rate for a term; refuses a term that is not below the reach.
     fn rate_for(&self, term: u16) -> Result<Rate, Refusal>
         ensures answer { told (λ rate. rate.basis_points) result ≡ rate_answer (reach self.now) (rate self.now) term }
         ensures unchanged { self.exit.now ≡ self.entry.now };
+
+    ghost discounting: { (curve : Self) → Discounting (reach curve) (rate curve) };
 }
 
 #[cfg(test)]

@@ -1,13 +1,12 @@
 //! The sloping curve.
 ghost use Rattle.std.specs.Prelude.{◌≡◌, ◌<◌, pos, negsuc, ◌*ℤ◌, ◌≤ℤ◌};
 ghost use Rattle.quantities.specs.Rounding.{round_down_signed};
-ghost use Rattle.curve.specs.Points.{points_of, reach_of, between, sloping_rate};
+ghost use Rattle.curve.specs.Points.{reach_of, between, sloping_rate};
 ghost use Rattle.curve.specs.Discounted.{slopes_discounting};
 
 use crate::Curve;
 use crate::point::Point;
 use crate::point::points::Points;
-use crate::point::points::methods::{first_point, last_point};
 use quantities::range::Rate;
 use quantities::refusal::Refusal;
 
@@ -41,23 +40,18 @@ pub struct SlopingCurve<'p, 'a> {
 }
 
 impl<'p, 'a> Curve for SlopingCurve<'p, 'a> {
-    ghost reach = { λ curve. reach_of (points_of curve.points.now) };
+    ghost reach = { λ curve. reach_of curve.points.now.records };
 
-    ghost rate = { λ curve. sloping_rate (points_of curve.points.now) };
-
-    ghost discounting = { λ curve. slopes_discounting (points_of curve.points.now) };
+    ghost rate = { λ curve. sloping_rate curve.points.now.records };
 
     fn rate_for(&self, term: u16) -> Result<Rate, Refusal> {
         let (below, from) = self.points.split_at(term);
-        let Some(next) = first_point(from) else {
-            return Err(Refusal::NoRate);
-        };
-        if next.term == term {
-            return Ok(next.rate);
-        }
-        match last_point(below) {
-            Some(previous) => Ok(rate_between(previous, next, term)),
-            None => Ok(next.rate),
+        let next = from.first().ok_or(Refusal::NoRate)?;
+        match below.last() {
+            Some(previous) if term < next.term => Ok(rate_between(*previous, *next, term)),
+            _ => Ok(next.rate),
         }
     }
+
+    ghost discounting = { λ curve. slopes_discounting curve.points.now.records };
 }

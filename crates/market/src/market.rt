@@ -1,25 +1,118 @@
 //! A day with its prices and margin percentages, in lent memory.
-ghost use Rattle.std.specs.Prelude.{◌≡◌, ◌+◌, ◌≤◌};
-ghost use Rattle.register.specs.Contents.{records_of, room_of};
-ghost use Rattle.register.specs.Keys.{Ascends};
-ghost use Rattle.market.specs.Records.{price_rank, percentage_rank};
+ghost use Rattle.std.specs.Prelude.{◌≡◌, [], length};
+ghost use Rattle.market.specs.Changes.{AddsPrice, AddsPercentage};
+ghost use Rattle.market.specs.Contents.{percentage_for};
+ghost use Rattle.market.specs.Records.{isin_rank, price_rank};
+ghost use Rattle.register.specs.Contents.{room_in};
+ghost use Rattle.register.specs.Keys.{found_by};
 
+use crate::day::Day;
 use crate::price::{Percentage, Price};
 use quantities::date::Date;
+use quantities::isin::Isin;
+use quantities::range::MarginPercentage;
+use quantities::refusal::Refusal;
+use quantities::tranche::Tranche;
 use register::register::Register;
-
-pub mod methods;
+use std::marker::Model;
 
 /// A day, its prices ascending by ISIN and its percentages by tranche.
 #[derive(Drop)]
 pub struct Market<'a> {
-    today: Date,
-    next: Date,
+    day: Day,
     prices: Register<'a, Price>,
     percentages: Register<'a, Percentage>,
-    ghost after: { today + 1 ≤ next },
-    ghost within: { next ≤ today + 10 },
-    ghost priced: { Ascends price_rank (records_of prices) },
-    ghost ranked: { Ascends percentage_rank (records_of percentages) },
-    ghost six: { room_of percentages ≡ 6 },
+}
+
+// A clause sees the day, the prices and percentages, and how many prices there may be.
+impl<'a> Model for Market<'a> {
+    ghost use Rattle.std.specs.Prelude.{◌≡◌};
+    ghost use Rattle.market.specs.Contents.{Quotes};
+
+    ghost Value = { Quotes };
+
+    ghost view = { λ m. record { day = m.day; prices = m.prices.records; percentages = m.percentages.records; room = m.prices.room } };
+
+    ghost invariant = { λ m. m.percentages.room ≡ 6 };
+}
+
+impl<'a> Market<'a> {
+    /// A day without prices and percentages, over memory for them.
+    pub fn new(day: Day, prices: &'a mut [Price], percentages: &'a mut [Percentage; 6]) -> Self
+        ensures day { result.day ≡ day }
+        ensures unpriced { result.prices ≡ [] }
+        ensures unranked { result.percentages ≡ [] }
+        ensures room { result.room ≡ room_in (length prices.old) }
+    {
+        let prices = Register::new(prices);
+        let percentages = Register::new(percentages);
+        Market {
+            day,
+            prices,
+            percentages,
+        }
+    }
+
+    /// Today.
+    pub fn today(&self) -> Date
+        ensures { result ≡ self.now.day.today }
+    {
+        self.day.today
+    }
+
+    /// The business day after today.
+    pub fn next(&self) -> Date
+        ensures { result ≡ self.now.day.next }
+    {
+        self.day.next
+    }
+
+    /// The prices by ISIN.
+    pub fn prices(&self) -> &[Price]
+        ensures { result.now ≡ self.now.prices }
+    {
+        self.prices.records()
+    }
+
+    /// The percentages by tranche.
+    pub fn percentages(&self) -> &[Percentage]
+        ensures { result.now ≡ self.now.percentages }
+    {
+        self.percentages.records()
+    }
+
+    /// Puts a price in by its ISIN; refuses one that does not fit, then an ISIN that has a price, then one without a place.
+    pub fn add_price(&mut self, isin: Isin, price: u32, maturity: Date) -> Result<(), Refusal>
+        ensures change { AddsPrice self.old.room isin price maturity self.old.prices result self.new.prices }
+        ensures others { self.new ≡ record self.old { prices = self.new.prices } }
+    {
+        let price = Price::new(isin, price, maturity)?;
+        self.prices.insert(price)
+    }
+
+    /// Puts a percentage in by its tranche; refuses one that does not fit, then a tranche that has one.
+    pub fn add_percentage(&mut self, tranche: u8, percentage: u16) -> Result<(), Refusal>
+        ensures change { AddsPercentage tranche percentage self.old.percentages result self.new.percentages }
+        ensures others { self.new ≡ record self.old { percentages = self.new.percentages } }
+    {
+        let percentage = Percentage::new(tranche, percentage)?;
+        self.percentages.insert(percentage)
+    }
+
+    /// The price of an ISIN.
+    pub fn price_of(&self, isin: Isin) -> Option<Price>
+        ensures { result ≡ found_by price_rank (isin_rank isin) self.now.prices }
+    {
+        self.prices.find(isin.bytes).copied()
+    }
+
+    /// The percentage for a residual life in days, which is that of its tranche.
+    pub fn percentage_for(&self, life: u16) -> Option<MarginPercentage>
+        ensures { result ≡ percentage_for life self.now.percentages }
+    {
+        let tranche = Tranche::of_life(life);
+        self.percentages
+            .find(tranche.number())
+            .map(|found| found.percentage)
+    }
 }

@@ -34,9 +34,11 @@ impl Price {
             maturity,
         })
     }
+}
 
-    /// What a free place may hold.
-    pub fn blank() -> Price {
+/// What a free place may hold.
+impl Default for Price {
+    fn default() -> Price {
         Price {
             isin: Isin { bytes: [0; 12] },
             price: UnitPrice {
@@ -77,9 +79,11 @@ impl Percentage {
             percentage,
         })
     }
+}
 
-    /// What a free place may hold.
-    pub fn blank() -> Percentage {
+/// What a free place may hold.
+impl Default for Percentage {
+    fn default() -> Percentage {
         Percentage {
             tranche: Tranche::UpToOneYear,
             percentage: MarginPercentage { basis_points: 0 },

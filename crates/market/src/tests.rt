@@ -46,8 +46,8 @@ fn day() -> Day {
 
 #[test]
 fn prices_are_refused_in_order(rt: HostRuntime) {
-    let mut prices = [Price::blank(); 1];
-    let mut percentages = [Percentage::blank(); 6];
+    let mut prices = [Price::default(); 1];
+    let mut percentages = [Percentage::default(); 6];
     let mut market = Market::new(day(), &mut prices, &mut percentages);
     assert_eq!(rt; refused(market.add_price(AMERICAN, 0, 10_000)), 4);
     assert_eq!(rt; refused(market.add_price(AMERICAN, 2_000_000, 10_000)), 0);
@@ -63,7 +63,7 @@ fn prices_are_refused_in_order(rt: HostRuntime) {
 
 #[test]
 fn six_tranches_have_a_place_each(rt: HostRuntime) {
-    let mut percentages = [Percentage::blank(); 6];
+    let mut percentages = [Percentage::default(); 6];
     let mut market = Market::new(day(), &mut [], &mut percentages);
     for tranche in 1..7 {
         assert_eq!(rt; refused(market.add_percentage(tranche, 10_000)), 0);

@@ -1,20 +1,23 @@
 -- Records that ascend: what a search shows, and what stays so after a change.
-use Rattle.std.proofs.Common.{◌≡◌, ℕ, zero, suc, ◌+◌, ◌-◌, ◌<◌, ◌≤◌, true, false, List, [], ◌∷◌, length, get_or, Some, None, sym, refl, ap, ◌∙◌, ⊎_elim, arith}
-use Rattle.std.proofs.lemmas.List.{get_or_default}
+use Rattle.std.proofs.Common.{◌≡◌, ℕ, zero, suc, ◌+◌, ◌-◌, ◌<◌, ◌≤◌, true, false, List, [], ◌∷◌, length, get_or, Some, None, Ok, Err, Result, sym, refl, ap, ◌∙◌, ⊎_elim, arith}
 use Rattle.std.proofs.lemmas.Bool.{cases_lt, cases_eq, lt-ltb, le-ltb, eq-eqb, ne_eqb}
 use Rattle.std.specs.List.{insert, remove}
 use Rattle.std.proofs.lemmas.List.Edits.{length-insert, get_or-insert_below, get_or-insert_at, get_or-insert_above, length-remove, get_or-remove_below, get_or-remove_above}
 use Rattle.register.specs.Keys.{found_by, has_rank, inserted_by, without, Ascends}
-use Rattle.register.specs.Search.{Parts, Hits, Misses}
+use Rattle.std.specs.List.Sorted.{IsSearchInRange, IsBinarySearchResult, IsNonDecreasingBy}
+use Rattle.std.specs.Ordering.{nat_cmp, ordering_index}
+use Rattle.std.proofs.lemmas.Cmp.{ranked}
+use Rattle.std.proofs.lemmas.Bool.Decides.{nat_tests}
+use Rattle.register.specs.Search.{Parts, Hits, Misses, Placed}
 
 -- the ranks rise between any two places
-abbrev pub Far : {X : Type 0} → (X → ℕ) → List X → Type 0
+abbrev Far : {X : Type 0} → (X → ℕ) → List X → Type 0
 Far {X} f xs = (i j : ℕ) (d : X) → i < j → j < length xs → f (get_or xs i d) < f (get_or xs j d)
 
--- the ranks before low are lower than n, and from high on they are higher
-pub record Splits {X : Type 0} (f : X → ℕ) (n : ℕ) (xs : List X) (low high : ℕ) : Type 0 where
-  pub below : (k : ℕ) (d : X) → k < low → f (get_or xs k d) < n
-  pub above : (k : ℕ) (d : X) → high ≤ k → k < length xs → n < f (get_or xs k d)
+-- the ranks before p are lower than n, and from p on they are higher
+record Splits {X : Type 0} (f : X → ℕ) (n : ℕ) (xs : List X) (p : ℕ) : Type 0 where
+  pub below : (k : ℕ) (d : X) → k < p → f (get_or xs k d) < n
+  pub above : (k : ℕ) (d : X) → p ≤ k → k < length xs → n < f (get_or xs k d)
 
 -- the rank at p is n
 record Stands {X : Type 0} (f : X → ℕ) (n : ℕ) (xs : List X) (p : ℕ) : Type 0 where
@@ -33,7 +36,7 @@ module _ {X : Type 0} (f : X → ℕ) where
       let b = up (i + suc m) d (omega arith) in
       rw e (omega arith)
 
-  pub far : (xs : List X) → Ascends f xs → Far f xs
+  far : (xs : List X) → Ascends f xs → Far f xs
   far xs up i j d l m =
       let e : j ≡ i + suc (j - i - 1) = omega arith in
       rw e (ahead xs up d i (j - i - 1) (omega arith))
@@ -41,34 +44,12 @@ module _ {X : Type 0} (f : X → ℕ) where
   near : (xs : List X) → Far f xs → Ascends f xs
   near xs up k d l = up k (k + 1) d (omega arith) l
 
-  pub split_low : (n : ℕ) (xs : List X) (low high mid : ℕ) (e : X) → Far f xs → Splits f n xs low high → mid < length xs → e ≡ get_or xs mid e → f e < n → Splits f n xs (mid + 1) high
-  split_low n xs low high mid e up s h r b = record {
-    below = λ k d l.
-        let q : f (get_or xs mid d) < n = rw (get_or_default xs mid d e h, ← r) b in
-        ⊎_elim (λ (m : k < mid). let u = up k mid d m h in omega arith)
-        (λ (m : mid ≤ k). let z : k ≡ mid = omega arith in rw z q)
-        (cases_lt k mid);
-    above = s.above;
+  stands_at : (n : ℕ) (xs : List X) (p : ℕ) → Far f xs → p < length xs → ((d : X) → f (get_or xs p d) ≡ n) → Stands f n xs p
+  stands_at n xs p up l here = record {
+    below = λ k d m. let u = up k p d m l in let v = here d in omega arith;
+    here = here;
+    above = λ k d m o. let u = up p k d m o in let v = here d in omega arith;
   }
-
-  pub split_high : (n : ℕ) (xs : List X) (low high mid : ℕ) (e : X) → Far f xs → Splits f n xs low high → mid < length xs → e ≡ get_or xs mid e → n < f e → Splits f n xs low mid
-  split_high n xs low high mid e up s h r b = record {
-    below = s.below;
-    above = λ k d l m.
-        let q : n < f (get_or xs mid d) = rw (get_or_default xs mid d e h, ← r) b in
-        ⊎_elim (λ (w : mid < k). let u = up mid k d w m in omega arith)
-        (λ (w : k ≤ mid). let z : k ≡ mid = omega arith in rw z q)
-        (cases_lt mid k);
-  }
-
-  stands_at : (n : ℕ) (xs : List X) (mid : ℕ) (e : X) → Far f xs → mid < length xs → e ≡ get_or xs mid e → f e ≡ n → Stands f n xs mid
-  stands_at n xs mid e up h r b =
-      let q : (d : X) → f (get_or xs mid d) ≡ n = λ d. rw (get_or_default xs mid d e h, ← r) b in
-      record {
-        below = λ k d l. let u = up k mid d l h in let v = q d in omega arith;
-        here = q;
-        above = λ k d l m. let u = up mid k d l m in let v = q d in omega arith;
-      }
 
   stands_tail : {n : ℕ} (x : X) (xs : List X) (p : ℕ) → Stands f n (x ∷ xs) (suc p) → Stands f n xs p
   stands_tail x xs p h = record {
@@ -86,19 +67,19 @@ module _ {X : Type 0} (f : X → ℕ) where
       let e = ne_eqb (f x) n (λ z. omega arith) in
       rw e (found_here n xs p d (omega arith) (stands_tail x xs p h))
 
-  has_here : (n : ℕ) (xs : List X) (p : ℕ) (d : X) → p < length xs → Stands f n xs p → has_rank f n xs ≡ true
-  has_here n [] p d l h = absurd (omega arith)
-  has_here n (x ∷ xs) zero d l h = let e = eq-eqb (f x) n (h.here d) in rw e
-  has_here n (x ∷ xs) (suc p) d l h =
-      let b = h.below 0 d (omega arith) in
+  has_here : (n : ℕ) (xs : List X) (p : ℕ) → p < length xs → Stands f n xs p → has_rank f n xs ≡ true
+  has_here n [] p l h = absurd (omega arith)
+  has_here n (x ∷ xs) zero l h = let e = eq-eqb (f x) n (h.here x) in rw e
+  has_here n (x ∷ xs) (suc p) l h =
+      let b = h.below 0 x (omega arith) in
       let e = ne_eqb (f x) n (λ z. omega arith) in
-      rw e (has_here n xs p d (omega arith) (stands_tail x xs p h))
+      rw e (has_here n xs p (omega arith) (stands_tail x xs p h))
 
   -- no element has rank n
   abbrev Lacks : ℕ → List X → Type 0
   Lacks n xs = (k : ℕ) (d : X) → k < length xs → f (get_or xs k d) ≡ n → ⊥
 
-  lacks : (n : ℕ) (xs : List X) (p : ℕ) → Splits f n xs p p → Lacks n xs
+  lacks : (n : ℕ) (xs : List X) (p : ℕ) → Splits f n xs p → Lacks n xs
   lacks n xs p h k d l e =
       ⊎_elim (λ (w : k < p). let b = h.below k d w in omega arith) (λ (w : p ≤ k). let b = h.above k d w l in omega arith) (cases_lt k p)
 
@@ -131,13 +112,13 @@ module _ {X : Type 0} (f : X → ℕ) where
       let e = ne_eqb (f x) n (λ z. omega arith) in
       rw e (ap (λ ys. x ∷ ys) (without_here n xs p (omega arith) (stands_tail x xs p h)))
 
-  splits_tail : {n : ℕ} (x : X) (xs : List X) (p : ℕ) → Splits f n (x ∷ xs) (suc p) (suc p) → Splits f n xs p p
+  splits_tail : {n : ℕ} (x : X) (xs : List X) (p : ℕ) → Splits f n (x ∷ xs) (suc p) → Splits f n xs p
   splits_tail x xs p h = record {
     below = λ k c m. h.below (suc k) c (omega arith);
     above = λ k c m o. h.above (suc k) c (omega arith) (omega arith);
   }
 
-  inserted_here : (r : X) (xs : List X) (p : ℕ) → p ≤ length xs → Splits f (f r) xs p p → inserted_by f r xs ≡ insert xs p r
+  inserted_here : (r : X) (xs : List X) (p : ℕ) → p ≤ length xs → Splits f (f r) xs p → inserted_by f r xs ≡ insert xs p r
   inserted_here r [] zero l h = refl
   inserted_here r [] (suc p) l h = absurd (omega arith)
   inserted_here r (x ∷ xs) zero l h =
@@ -154,7 +135,7 @@ module _ {X : Type 0} (f : X → ℕ) where
       let z : j ≡ (j - 1) + 1 = omega arith in
       ap (λ m. get_or (insert xs p r) m d) z ∙ get_or-insert_above xs p r d (j - 1) (omega arith) le
 
-  ascends_inserted : (r : X) (xs : List X) (p : ℕ) → p ≤ length xs → Far f xs → Splits f (f r) xs p p → Far f (insert xs p r)
+  ascends_inserted : (r : X) (xs : List X) (p : ℕ) → p ≤ length xs → Far f xs → Splits f (f r) xs p → Far f (insert xs p r)
   ascends_inserted r xs p le up h i j d l m =
       let n = length-insert xs p r le in
       ⊎_elim
@@ -211,24 +192,23 @@ module _ {X : Type 0} (f : X → ℕ) where
       record { below = rw e (ap (λ ys. x ∷ ys) t.below); from = rw e t.from }
 
   -- what a search shows
-  pub hits_at : (n : ℕ) (xs : List X) (p : ℕ) (e : X) → p < length xs → e ≡ get_or xs p e → f e ≡ n → Ascends f xs → Hits f n xs p
-  hits_at n xs p e l r b up =
+  hits_at : (n : ℕ) (xs : List X) (p : ℕ) → p < length xs → ((d : X) → f (get_or xs p d) ≡ n) → Ascends f xs → Hits f n xs p
+  hits_at n xs p l here up =
       let all = far xs up in
-      let h = stands_at n xs p e all l r b in
+      let h = stands_at n xs p all l here in
       record {
-        present = has_here n xs p e l h;
+        present = has_here n xs p l h;
         found = λ x q. found_here n xs p x l h ∙ ap (λ y. Some y) (sym q);
         rest = without_here n xs p l h;
         ascends = near _ (ascends_removed xs p l all);
         parts = parted n xs p (omega arith) h.below (λ k d m o.
-            ⊎_elim (λ (z : k ≡ p). let q = h.here d in rw z (omega arith)) (λ ne. let q = h.above k d (omega (arith, ne)) o in omega arith) (cases_eq k p));
+            ⊎_elim (λ (z : k ≡ p). let q = here d in rw z (omega arith)) (λ ne. let q = h.above k d (omega (arith, ne)) o in omega arith) (cases_eq k p));
       }
 
-  pub misses_at : (n : ℕ) (xs : List X) (p high : ℕ) → high ≤ p → p ≤ length xs → Splits f n xs p high → Ascends f xs → Misses f n xs p
-  misses_at n xs p high g le s up =
-      let h : Splits f n xs p p = record { below = s.below; above = λ k d l m. s.above k d (omega arith) m } in
+  misses_at : (n : ℕ) (xs : List X) (p : ℕ) → p ≤ length xs → Splits f n xs p → Ascends f xs → Misses f n xs p
+  misses_at n xs p le h up =
       let la = lacks n xs p h in
-      let own : (r : X) → f r ≡ n → Splits f (f r) xs p p = λ r e. rw e h in
+      let own : (r : X) → f r ≡ n → Splits f (f r) xs p = λ r e. rw e h in
       record {
         absent = has_none n xs la;
         none = found_none n xs la;
@@ -237,3 +217,21 @@ module _ {X : Type 0} (f : X → ℕ) where
         ascends = λ r e. near _ (ascends_inserted r xs p le (far xs up) (own r e));
         parts = parted n xs p le h.below (λ k d m o. let q = h.above k d m o in omega arith);
       }
+
+  -- the comparisons with n rise along the records, as a binary search asks
+  comparisons_rise : (n : ℕ) (xs : List X) → Ascends f xs → IsNonDecreasingBy (λ x. ordering_index (nat_cmp (f x) n)) xs
+  comparisons_rise n xs up i j d l m =
+      ⊎_elim (λ (e : i ≡ j). rw e (omega arith))
+      (λ ne. let u = far xs up i j d (omega (arith, ne)) m in grind (arith, nat_tests))
+      (cases_eq i j)
+
+  pub placed : (n : ℕ) (xs : List X) (r : Result ℕ ℕ) → Ascends f xs → IsSearchInRange r (length xs) → IsBinarySearchResult (λ x. nat_cmp (f x) n) xs r → Placed f n xs r
+  placed n xs (Ok p) up l equal = (l, hits_at n xs p l (λ d. ranked _ n _ (sym (equal d))) up)
+  placed n xs (Err p) up l parted =
+      let parts = parted (comparisons_rise n xs up) in (
+        l,
+        misses_at n xs p l record {
+          below = λ k d m. ranked _ n _ (sym (parts.0 k d (omega arith) m));
+          above = λ k d m o. ranked _ n _ (sym (parts.1 k d m o));
+        } up,
+      )

@@ -1,6 +1,11 @@
 -- The order of the numbers that bytes spell is byte order.
-use Rattle.std.proofs.Common.{◌≡◌, ℕ, zero, suc, ◌+◌, ◌*◌, ◌<◌, ltb, List, [], ◌∷◌, get_or, sym, ap, ◌∙◌, ⊎_elim, arith}
+use Rattle.std.proofs.Common.{◌≡◌, ℕ, zero, suc, ◌+◌, ◌*◌, ◌<◌, ltb, List, [], ◌∷◌, sym, refl, ap, ◌∙◌, ⊎_elim, arith}
 use Rattle.std.proofs.lemmas.Bool.{cases_order, lt-ltb, le-ltb, eq-eqb, ne_eqb}
+use Rattle.std.specs.declared.cmp.Ordering.TheVariants.{Less, Equal, Greater}
+use Rattle.std.specs.declared.cmp.Ordering.{Ordering}
+use Rattle.std.specs.Cmp.Lexicographic.{slice_cmp}
+use Rattle.std.specs.Ordering.{nat_cmp}
+use Rattle.register.specs.Keys.{Compares}
 use Rattle.register.specs.Bytes.{value, Bytes, before, ByteOrder}
 
 tail : {n : ℕ} (x : ℕ) (xs : List ℕ) → Bytes (suc n) (x ∷ xs) → Bytes n xs
@@ -16,23 +21,30 @@ value_less (suc n) a b (x ∷ xs) (y ∷ ys) h k e =
     let q = k.small 0 (omega arith) in
     value_less n (a * 256 + x) (b * 256 + y) xs ys (tail x xs h) (tail y ys k) (omega arith)
 
--- the first byte in which two lists differ decides
-value_differs : (n a : ℕ) (xs ys : List ℕ) → Bytes n xs → Bytes n ys → (i : ℕ) → i < n → ((k : ℕ) → k < i → get_or xs k 0 ≡ get_or ys k 0) → get_or xs i 0 < get_or ys i 0 → value a xs < value a ys
-value_differs n a [] ys h k i l s d = let p = h.many in absurd (omega arith)
-value_differs n a (x ∷ xs) [] h k i l s d = let q = k.many in absurd (omega arith)
-value_differs zero a (x ∷ xs) (y ∷ ys) h k i l s d = absurd (omega arith)
-value_differs (suc n) a (x ∷ xs) (y ∷ ys) h k zero l s d =
-    value_less n (a * 256 + x) (a * 256 + y) xs ys (tail x xs h) (tail y ys k) (omega arith)
-value_differs (suc n) a (x ∷ xs) (y ∷ ys) h k (suc i) l s d =
-    let e : x ≡ y = s 0 (omega arith) in
-    rw e (value_differs n (a * 256 + y) xs ys (tail x xs h) (tail y ys k) i (omega arith) (λ j m. s (suc j) (omega arith)) d)
+-- the same first byte leaves the order to the others
+same_first : (a x : ℕ) (xs ys : List ℕ) (o : Ordering) → Compares (value (a * 256 + x)) xs ys o → Compares (value a) (x ∷ xs) (x ∷ ys) o
+same_first a x xs ys Less h = h
+same_first a x xs ys Equal h = ap (λ zs. x ∷ zs) h
+same_first a x xs ys Greater h = h
 
--- the bytes at i decide the order, where xs has the lower one there
-abbrev pub Decides : List ℕ → List ℕ → ℕ → Type 0
-Decides xs ys i = i < 12 → get_or xs i 0 < get_or ys i 0 → value 0 xs < value 0 ys
+compared : (n a : ℕ) (xs ys : List ℕ) → Bytes n xs → Bytes n ys → Compares (value a) xs ys (slice_cmp nat_cmp xs ys)
+compared n a [] [] h k = refl
+compared n a [] (y ∷ ys) h k = let p = h.many in let q = k.many in absurd (omega arith)
+compared n a (x ∷ xs) [] h k = let p = h.many in let q = k.many in absurd (omega arith)
+compared zero a (x ∷ xs) (y ∷ ys) h k = let p = h.many in absurd (omega arith)
+compared (suc n) a (x ∷ xs) (y ∷ ys) h k =
+    ⊎_elim
+    (λ (e : x ≡ y).
+    rw (← e, le-ltb x x (omega arith), eq-eqb x x refl) (same_first a x xs ys _ (compared n (a * 256 + x) xs ys (tail x xs h) (tail y ys k))))
+    (⊎_elim
+    (λ (w : x < y). rw (lt-ltb x y w) (value_less n (a * 256 + x) (a * 256 + y) xs ys (tail x xs h) (tail y ys k) (omega arith)))
+    (λ (w : y < x).
+    rw (le-ltb x y (omega arith), ne_eqb x y (λ z. omega arith)) (value_less n (a * 256 + y) (a * 256 + x) ys xs (tail y ys k) (tail x xs h) (omega arith))))
+    (cases_order x y)
 
-pub decides : (xs ys : List ℕ) → Bytes 12 xs → Bytes 12 ys → (i : ℕ) → ((k : ℕ) → k < i → get_or xs k 0 ≡ get_or ys k 0) → Decides xs ys i
-decides xs ys h k i s l d = value_differs 12 0 xs ys h k i l s d
+-- keys of twelve bytes compare as the numbers that they spell
+pub twelve_compared : (xs ys : List ℕ) → Bytes 12 xs → Bytes 12 ys → Compares (value 0) xs ys (slice_cmp nat_cmp xs ys)
+twelve_compared xs ys h k = compared 12 0 xs ys h k
 
 in_order : (n a : ℕ) (xs ys : List ℕ) → Bytes n xs → Bytes n ys → ltb (value a xs) (value a ys) ≡ before xs ys
 in_order n a [] [] h k = le-ltb a a (omega arith)

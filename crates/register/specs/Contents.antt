@@ -1,11 +1,17 @@
 -- What a register holds.
-use Rattle.std.specs.Prelude.{ℕ, min, List, length, take}
-use Rattle.register.specs.declared.register.Register.{Register}
+use Rattle.std.specs.Prelude.{ℕ, ◌≤◌, min, List, length, take}
+use Rattle.register.specs.Keys.{Ascends}
 
--- how many records it can hold: as many as there are places, and 65,535 at most
-abbrev pub room_of : {X K : Type 0} → Register X K → ℕ
-room_of g = min (length g.places.now) 65535
+-- its records, in the order of their keys, and how many it can hold
+pub record Held (X : Type 0) : Type 0 where
+  pub records : List X
+  pub room : ℕ
 
--- its records, in their order: what stands in the places that it has used
-abbrev pub records_of : {X K : Type 0} → Register X K → List X
-records_of g = take (min g.used (room_of g)) g.places.now
+-- as many records as there are places, and 65,535 at most
+abbrev pub room_in : ℕ → ℕ
+room_in places = min places 65535
+
+-- the first of the places hold records that ascend by a rank f
+pub record Holds {X : Type 0} (f : X → ℕ) (used : ℕ) (places : List X) : Type 0 where
+  pub within : used ≤ room_in (length places)
+  pub ascends : Ascends f (take used places)

@@ -27,5 +27,5 @@ pub record Misses {X : Type 0} (f : X → ℕ) (n : ℕ) (xs : List X) (p : ℕ)
 
 -- the answer is the place of rank n, or the place that it would have
 abbrev pub Placed : {X : Type 0} → (X → ℕ) → ℕ → List X → Result ℕ ℕ → Type 0
-Placed f n xs (Ok p) = (p < length xs) × (Ascends f xs → Hits f n xs p)
-Placed f n xs (Err p) = (p ≤ length xs) × (Ascends f xs → Misses f n xs p)
+Placed f n xs (Ok p) = (p < length xs) × Hits f n xs p
+Placed f n xs (Err p) = (p ≤ length xs) × Misses f n xs p

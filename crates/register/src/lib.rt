@@ -4,7 +4,6 @@
 pub mod key;
 pub mod record;
 pub mod register;
-mod search;
 
 pub use key::Key;
 pub use record::Record;

@@ -1,6 +1,7 @@
 mod kinds;
 
-use kinds::{Line, Lines, Point, Points, Price, Prices};
+use crate::register::Register;
+use kinds::{Line, Point, Price};
 use quantities::refusal::Refusal;
 
 // The number of a refusal, and 0 of what is accepted.
@@ -35,7 +36,7 @@ fn price_of(found: Option<&Price>) -> u32 {
 #[test]
 fn lines_ascend_and_a_refusal_leaves_them(rt: HostRuntime) {
     let mut places = [line(0); 3];
-    let mut lines = Lines::new(&mut places);
+    let mut lines = Register::new(&mut places);
     assert_eq!(rt; refused(lines.insert(line(7))), 0);
     assert_eq!(rt; refused(lines.insert(line(5))), 0);
     assert_eq!(rt; refused(lines.insert(line(2))), 0);
@@ -68,7 +69,7 @@ fn a_place_that_is_freed_is_used_again(rt: HostRuntime) {
         price: 97_000,
     };
     let mut places = [italian; 2];
-    let mut prices = Prices::new(&mut places);
+    let mut prices = Register::new(&mut places);
     assert_eq!(rt; refused(prices.insert(italian)), 0);
     assert_eq!(rt; refused(prices.insert(german)), 0);
     assert_eq!(rt; refused(prices.insert(french)), 9);
@@ -83,7 +84,7 @@ fn a_place_that_is_freed_is_used_again(rt: HostRuntime) {
 #[test]
 fn without_places_a_register_is_full_at_once(rt: HostRuntime) {
     let mut places: [Point; 0] = [];
-    let mut points = Points::new(&mut places);
+    let mut points = Register::new(&mut places);
     assert_eq!(rt;
         refused(points.insert(Point {
             term: 365,

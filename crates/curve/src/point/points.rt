@@ -1,15 +1,67 @@
 //! Points by term, in lent memory.
-ghost use Rattle.register.specs.Contents.{records_of};
-ghost use Rattle.register.specs.Keys.{Ascends};
+ghost use Rattle.std.specs.Prelude.{◌≡◌, min, [], length};
+ghost use Rattle.register.specs.Keys.{Ascends, below_rank, from_rank};
+ghost use Rattle.curve.specs.Points.{Adds};
 
 use super::Point;
+use quantities::range::Rate;
+use quantities::refusal::Refusal;
 use register::register::Register;
-
-pub mod methods;
+use std::marker::Model;
 
 /// At most 64 points with different terms, ascending by term.
 #[derive(Drop)]
 pub struct Points<'a> {
     list: Register<'a, Point>,
-    ghost ascends: { Ascends (λ point. point.term) (records_of list) },
+}
+
+// A clause sees the points and how many there may be.
+impl<'a> Model for Points<'a> {
+    ghost use Rattle.register.specs.Contents.{Held};
+    ghost use Rattle.curve.specs.declared.point.Point.{Point};
+
+    ghost Value = { Held Point };
+
+    ghost view = { λ points. points.list };
+}
+
+impl<'a> Points<'a> {
+    /// How many points a curve has at most.
+    pub const MOST: usize = 64;
+
+    /// No points, over memory for them.
+    pub fn new(places: &'a mut [Point]) -> Self
+        ensures none { result.records ≡ [] }
+        ensures room { result.room ≡ min (length places.old) 64 }
+    {
+        let most = places.len().min(Points::MOST);
+        let list = Register::new(&mut places[..most]);
+        Points { list }
+    }
+
+    /// The points by term.
+    pub fn records(&self) -> &[Point]
+        ensures all { result.now ≡ self.now.records }
+        ensures ascends { Ascends (λ p. p.term) self.now.records }
+    {
+        self.list.records()
+    }
+
+    /// The points of terms below that one, and those from it on.
+    pub fn split_at(&self, term: u16) -> (&[Point], &[Point])
+        ensures below { result.0.now ≡ below_rank (λ p. p.term) term self.now.records }
+        ensures from { result.1.now ≡ from_rank (λ p. p.term) term self.now.records }
+        ensures ascends { Ascends (λ p. p.term) self.now.records }
+    {
+        self.list.split_at_key(term)
+    }
+
+    /// Puts a point in by its term.
+    pub fn add(&mut self, term: u16, rate: i16) -> Result<(), Refusal>
+        ensures change { Adds self.old.room term rate self.old.records result self.new.records }
+        ensures room { self.new.room ≡ self.old.room }
+    {
+        let rate = Rate::new(rate)?;
+        self.list.insert(Point::new(term, rate))
+    }
 }

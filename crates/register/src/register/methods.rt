@@ -1,116 +1,79 @@
-ghost use Rattle.std.specs.Prelude.{◌≡◌, ◌+◌, ◌-◌, ◌<◌, ◌≤◌, min, [], length, take, IfSome, ◌==◌};
+ghost use Rattle.std.specs.Prelude.{◌≡◌, ◌+◌, ◌-◌, ◌<◌, ◌≤◌, length, take, IfOk, IfSome, slice_index_or};
 ghost use Rattle.std.specs.Option.{option_map};
 ghost use Rattle.std.specs.List.{insert, remove};
 ghost use Rattle.register.specs.Keys.{by, Ascends, found_by, below_rank, from_rank};
 ghost use Rattle.register.specs.Changes.{Inserts, Removes};
-ghost use Rattle.register.specs.Contents.{records_of, room_of};
+ghost use Rattle.register.specs.Search.{Placed};
 
 use super::Register;
 use crate::key::Key;
 use crate::record::Record;
-use crate::search::place_of;
 use quantities::refusal::Refusal;
 
-// No more places than this are used, however many are lent.
-const MOST: usize = 65_535;
-
 impl<'a, R: Record> Register<'a, R> {
-    /// A register that holds no records.
-    pub fn new(places: &'a mut [R]) -> Self
-        ensures empty { records_of result ≡ [] }
-        ensures room { room_of result ≡ min (length places.old) 65535 }
-    {
-        Register { places, used: 0 }
-    }
-
-    /// How many records it can hold.
-    pub fn room(&self) -> usize
-        ensures { result ≡ room_of self.now }
-    {
-        self.places.len().min(MOST)
-    }
-
-    /// How many records it holds.
-    pub fn len(&self) -> usize
-        ensures count { result ≡ length (records_of self.now) }
-        ensures within { result ≤ room_of self.now }
-    {
-        self.used.min(self.room())
-    }
-
-    /// Whether it holds no records.
-    pub fn is_empty(&self) -> bool
-        ensures { result ≡ (length (records_of self.now) == 0) }
-    {
-        self.len() == 0
-    }
-
     /// The records, in the order of their keys.
     pub fn records(&self) -> &[R]
-        ensures { result.now ≡ records_of self.now }
+        ensures all { result.now ≡ self.now.records }
+        ensures ascends { Ascends (by R.Key.Key.rank R.Record.key_of) self.now.records }
     {
-        let used = self.len();
-        &self.places[0..used]
+        &self.places[..self.used]
     }
 
     /// The record with that key.
     pub fn find(&self, key: R::Key) -> Option<&R>
         ensures keyed { IfSome result (λ x. R.Record.key_of x.now ≡ key) }
-        ensures found { Ascends (by R.Key.Key.rank R.Record.key_of) (records_of self.now) → option_map (λ x. x.now) result ≡ found_by (by R.Key.Key.rank R.Record.key_of) (R.Key.Key.rank key) (records_of self.now) }
+        ensures found { option_map (λ x. x.now) result ≡ found_by (by R.Key.Key.rank R.Record.key_of) (R.Key.Key.rank key) self.now.records }
     {
-        let records = self.records();
-        match place_of(records, key) {
-            Ok(at) => Some(&records[at]),
-            Err(_) => None,
-        }
+        let at = self.place_of(key).ok()?;
+        Some(&self.records()[at])
     }
 
     /// The records with a key below that one, and those from it on.
     pub fn split_at_key(&self, key: R::Key) -> (&[R], &[R])
-        ensures below { Ascends (by R.Key.Key.rank R.Record.key_of) (records_of self.now) → result.0.now ≡ below_rank (by R.Key.Key.rank R.Record.key_of) (R.Key.Key.rank key) (records_of self.now) }
-        ensures from { Ascends (by R.Key.Key.rank R.Record.key_of) (records_of self.now) → result.1.now ≡ from_rank (by R.Key.Key.rank R.Record.key_of) (R.Key.Key.rank key) (records_of self.now) }
+        ensures below { result.0.now ≡ below_rank (by R.Key.Key.rank R.Record.key_of) (R.Key.Key.rank key) self.now.records }
+        ensures from { result.1.now ≡ from_rank (by R.Key.Key.rank R.Record.key_of) (R.Key.Key.rank key) self.now.records }
+        ensures ascends { Ascends (by R.Key.Key.rank R.Record.key_of) self.now.records }
     {
-        let records = self.records();
-        match place_of(records, key) {
-            Ok(at) => records.split_at(at),
-            Err(at) => records.split_at(at),
-        }
+        let (Ok(at) | Err(at)) = self.place_of(key);
+        self.records().split_at(at)
     }
 
     /// Puts the record in its place; refuses a key that is present, then a record for which no place is free.
     pub fn insert(&mut self, record: R) -> Result<(), Refusal>
-        ensures change { Ascends (by R.Key.Key.rank R.Record.key_of) (records_of self.old) → Inserts (by R.Key.Key.rank R.Record.key_of) (room_of self.old) «record» (records_of self.old) result (records_of self.new) }
-        ensures room { room_of self.new ≡ room_of self.old }
+        ensures change { Inserts (by R.Key.Key.rank R.Record.key_of) self.old.room «record» self.old.records result self.new.records }
+        ensures ascends { Ascends (by R.Key.Key.rank R.Record.key_of) self.old.records }
+        ensures room { self.new.room ≡ self.old.room }
     {
-        let used = self.len();
-        match place_of(self.records(), record.key()) {
-            Ok(_) => Err(Refusal::KeyPresent),
-            Err(at) => {
-                if used >= self.room() {
-                    return Err(Refusal::Full);
-                }
-                insert_at(self.places, used, at, record);
-                self.used = used + 1;
-                Ok(())
-            }
+        let Err(at) = self.place_of(record.key()) else {
+            return Err(Refusal::KeyPresent);
+        };
+        if self.used >= self.room() {
+            return Err(Refusal::Full);
         }
+        insert_at(self.places, self.used, at, record);
+        self.used += 1;
+        Ok(())
     }
 
     /// Takes the record with that key out; refuses a key under which none stands.
     pub fn remove(&mut self, key: R::Key) -> Result<R, Refusal>
-        ensures change { Ascends (by R.Key.Key.rank R.Record.key_of) (records_of self.old) → Removes (by R.Key.Key.rank R.Record.key_of) (R.Key.Key.rank key) (records_of self.old) result (records_of self.new) }
-        ensures room { room_of self.new ≡ room_of self.old }
+        ensures change { Removes (by R.Key.Key.rank R.Record.key_of) (R.Key.Key.rank key) self.old.records result self.new.records }
+        ensures room { self.new.room ≡ self.old.room }
     {
-        let used = self.len();
-        match place_of(self.records(), key) {
-            Ok(at) => {
-                let record = self.places[at];
-                remove_at(self.places, used, at);
-                self.used = used - 1;
-                Ok(record)
-            }
-            Err(_) => Err(Refusal::NotStanding),
-        }
+        let at = self.place_of(key).map_err(|_| Refusal::NotStanding)?;
+        let record = self.places[at];
+        remove_at(self.places, self.used, at);
+        self.used -= 1;
+        Ok(record)
+    }
+
+    // The place of the record with that key, or else the place that it would have.
+    fn place_of(&self, key: R::Key) -> Result<usize, usize>
+        ensures place { Placed (by R.Key.Key.rank R.Record.key_of) (R.Key.Key.rank key) self.now.records result }
+        ensures keyed { IfOk result (λ p. (x : R) → x ≡ slice_index_or self.now.records p x → R.Record.key_of x ≡ key) }
+    {
+        self.records()
+            .binary_search_by(|record| record.key().order(&key))
     }
 }
 

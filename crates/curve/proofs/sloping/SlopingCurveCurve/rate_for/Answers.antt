@@ -1,47 +1,51 @@
-use Rattle.std.proofs.Common.{refl, ap, ◌∙◌, arith}
+use Rattle.std.proofs.Common.{◌≡◌, ◌-◌, length, Some, None, Option, slice_get, refl, ap, ◌∙◌, rules, arith}
 use Rattle.std.proofs.lemmas.Bool.{lt-ltb, le-ltb}
-use Rattle.curve.specs.Points.{points_of, reach_of, first_of, last_of}
-use Rattle.curve.proofs.Found.{beyond, reached}
+use Rattle.register.specs.Keys.{below_rank, from_rank}
+use Rattle.curve.specs.declared.point.Point.{Point}
+use Rattle.curve.specs.Points.{reach_of, sloping_rate}
+use Rattle.curve.proofs.Found.{term_of, last_of, last_is, beyond, reached}
 use Rattle.curve.proofs.Sloped.{not_before, last_below, at_point, before_first, between_points}
 use Rattle.curve.proofs.sloping.SlopingCurveCurve.rate_for.Goals as goal
+use Rattle.curve.proofs.sloping.SlopingCurveCurve.rate_for.Goals.{After-last, in_default-via-in-Some+else-term-next, in_default-via-in_default}
 
-pub returns-in_default : goal.returns-in_default
-returns-in_default c =
-    let ps = points_of c.args.self.now.points.now in
-    let f = c.in_default.ensures ∙ ap first_of c.split_at.ensures.from in
-    record { answer = rw (le-ltb c.args.term (reach_of ps) (beyond ps c.args.term f)) refl; unchanged = refl }
-
-pub returns-then-next-term : goal.returns-then-next-term
-returns-then-next-term c =
-    let ps = points_of c.args.self.now.points.now in
+pub returns-in_err-next-clause-answer : goal.returns-in_err-next-clause-answer
+returns-in_err-next-clause-answer c =
+    let ps = c.args.self.now.points.now.records in
     let t = c.args.term in
-    let q = c.in-Some.next in
-    let f = c.in-Some.ensures ∙ ap first_of c.split_at.ensures.from in
-    record { answer = rw (lt-ltb t (reach_of ps) (reached ps t q c.args.self.now.points.now.ascends f), at_point ps t q f c.if-next-term.true) refl; unchanged = refl }
+    let f : ◌≡◌ {A = Option Point} None (slice_get (from_rank term_of t ps) 0) = search rules in
+    rw (le-ltb t (reach_of ps) (beyond ps t f)) (search rules)
+
+-- the next point is the first from the term on
+next : (c : After-last) → Some c.in_ok-next.next.now ≡ slice_get (from_rank term_of c.args.term c.args.self.now.points.now.records) 0
+next c = search rules
+
+-- the last point below the term
+last : (c : After-last) (o : Option Point) → o ≡ slice_get c.split_at.result.0.now (length c.split_at.result.0.now - 1) →
+    o ≡ last_of (below_rank term_of c.args.term c.args.self.now.points.now.records)
+last c o e = e ∙ (last_is c.split_at.result.0.now ∙ ap last_of c.split_at.ensures.below)
 
 pub rate_between-requires : goal.rate_between-requires
 rate_between-requires c =
-    let ps = points_of c.args.self.now.points.now in
-    let f = c.in-Some.ensures ∙ ap first_of c.split_at.ensures.from in
-    let b = not_before ps c.args.term c.in-Some.next f in
-    (last_below ps c.args.term c.in-Some-last_point.previous (c.in-Some-last_point.ensures ∙ ap last_of c.split_at.ensures.below), omega (arith, c.if-next-term.false))
+    let l = last (goal.at.rate_between-requires c).After-last (Some c.in-Some.previous.now) c.in-Some.ensures.value in
+    (last_below c.args.self.now.points.now.records c.args.term _ l, c.if-term-next.true)
 
-pub returns-in-Some-last_point : goal.returns-in-Some-last_point
-returns-in-Some-last_point c =
-    let ps = points_of c.args.self.now.points.now in
+pub returns-in-Some-clause-answer : goal.returns-in-Some-clause-answer
+returns-in-Some-clause-answer c =
+    let ps = c.args.self.now.points.now.records in
     let t = c.args.term in
-    let q = c.in-Some.next in
-    let f = c.in-Some.ensures ∙ ap first_of c.split_at.ensures.from in
-    let l = c.in-Some-last_point.ensures ∙ ap last_of c.split_at.ensures.below in
-    let b = not_before ps t q f in
-    let s = between_points ps t c.in-Some-last_point.previous q l f (omega (arith, c.if-next-term.false)) in
-    record { answer = rw (lt-ltb t (reach_of ps) (reached ps t q c.args.self.now.points.now.ascends f), s, c.rate_between.ensures) refl; unchanged = refl }
+    let q = c.in_ok-next.next.now in
+    let f = next (goal.at.returns-in-Some-clause-answer c).After-last in
+    let l = last (goal.at.returns-in-Some-clause-answer c).After-last (Some c.in-Some.previous.now) c.in-Some.ensures.value in
+    rw (lt-ltb t (reach_of ps) (reached ps t q c.split_at.ensures.ascends f), between_points ps t c.in-Some.previous.now q l f c.if-term-next.true, c.rate_between.ensures) refl
 
-pub returns-in-None : goal.returns-in-None
-returns-in-None c =
-    let ps = points_of c.args.self.now.points.now in
+pub returns-in_default-clause-answer : goal.returns-in_default-clause-answer
+returns-in_default-clause-answer c =
+    let ps = c.args.self.now.points.now.records in
     let t = c.args.term in
-    let q = c.in-Some.next in
-    let f = c.in-Some.ensures ∙ ap first_of c.split_at.ensures.from in
-    let l = c.in-None.ensures ∙ ap last_of c.split_at.ensures.below in
-    record { answer = rw (lt-ltb t (reach_of ps) (reached ps t q c.args.self.now.points.now.ascends f), before_first ps t q l f) refl; unchanged = refl }
+    let q = c.in_ok-next.next.now in
+    let f = next (goal.at.returns-in_default-clause-answer c).After-last in
+    let rate : sloping_rate ps t ≡ q.rate.basis_points = elim c.in_default.branch [
+      | in_default-via-in-Some+else-term-next w ↦ let b = not_before ps t q f in at_point ps t q f (omega (arith, w.if-term-next.false))
+      | in_default-via-in_default w ↦ before_first ps t q (last (goal.at.returns-in_default-clause-answer c).After-last None (search rules)) f
+    ] in
+    rw (lt-ltb t (reach_of ps) (reached ps t q c.split_at.ensures.ascends f), rate) refl

@@ -6,27 +6,15 @@ use Rattle.market.specs.Records.{isin_rank}
 use Rattle.market.proofs.Added.{told_number, leaves_put}
 use Rattle.market.proofs.market.Market.add_price.Goals as goal
 
-pub returns-in_err-price : goal.returns-in_err-price
-returns-in_err-price c =
+pub returns-in_err-price-clause-change : goal.returns-in_err-price-clause-change
+returns-in_err-price-clause-change c =
     let p = err_from_is_err_and c.from_residual.result c.from_residual.ensures.1 in
     let n = refused _ _ _ _ c.in_err-price.ensures in
-    record {
-      change = rw p.1 record { answers = rw p.2 (ap Err n.1 ∙ sym (cond-false _ _ _ n.0)); leaves = refl };
-      percentages = refl;
-      today = refl;
-      next = refl;
-      room = refl;
-    }
+    rw p.1 record { answers = rw p.2 (ap Err n.1 ∙ sym (cond-false _ _ _ n.0)); leaves = refl }
 
-pub returns : goal.returns
-returns c =
+pub returns-clause-change : goal.returns-clause-change
+returns-clause-change c =
     let y = accepted _ _ _ _ c.in_ok-price.ensures in
-    let h = c.insert.ensures.change c.args.self.now.priced in
+    let h = c.insert.ensures.change in
     let e = ap (λ parts. isin_rank parts.0) y.1 in
-    record {
-      change = record { answers = told_number _ _ _ _ _ _ _ e h ∙ sym (cond-true _ _ _ y.0); leaves = leaves_put _ _ _ _ _ _ _ _ y.1 h };
-      percentages = refl;
-      today = refl;
-      next = refl;
-      room = c.insert.ensures.room;
-    }
+    rw (← c.self.view_is) record { answers = told_number _ _ _ _ _ _ _ e h ∙ sym (cond-true _ _ _ y.0); leaves = leaves_put _ _ _ _ _ _ _ _ y.1 h }

@@ -1,21 +1,19 @@
-use Rattle.std.proofs.Common.{◌≡◌, ◌+◌, ◌<◌, min, length, take, ap, ◌∙◌, arith}
+use Rattle.std.proofs.Common.{◌≡◌, ◌<◌, length, take, ap, ◌∙◌, subst, arith}
+use Rattle.std.proofs.lemmas.List.{length-take-le}
 use Rattle.std.specs.List.{insert}
 use Rattle.register.specs.Keys.{by}
-use Rattle.register.specs.Contents.{records_of, room_of}
-use Rattle.register.proofs.Changes.{inserts, misses_same, length_held, held_now}
+use Rattle.register.specs.Search.{Misses}
+use Rattle.register.proofs.Changes.{inserts}
 use Rattle.register.proofs.register.Register.insert.Goals as goal
 
-pub returns-else-used-room : goal.returns-else-used-room
-returns-else-used-room g c =
+pub returns-clause-change : goal.returns-clause-change
+returns-clause-change g c =
     let f = by g.R.Key.Key.rank g.R.Record.key_of in
-    let places = c.args.self.now.places.now in
-    let n = c.len-used.ensures.count in
-    let free : length (records_of c.args.self.now) < room_of c.args.self.now = omega (arith, c.room.ensures) in
-    let t : take c.len-used.result places ≡ records_of c.args.self.now = ap (λ m. take m places) (n ∙ length_held c.args.self.now.used places) in
-    let kept = c.insert_at.auto.places in
-    record {
-      change = λ up. inserts f _ _ _ _ _ free
-          (misses_same f c.records.ensures (ap g.R.Key.Key.rank c.key.ensures) c.in-Err.ensures.place.1 up)
-          (held_now _ (c.len-used.result + 1) places c.insert_at.new.places kept (omega arith) (omega arith) ∙ (c.insert_at.ensures ∙ ap (λ zs. insert zs c.in-Err.at c.args.record) t));
-      room = ap (λ m. min m 65535) kept;
-    }
+    let held = c.args.self.now in
+    let used = c.self.inside.used in
+    let places = c.self.inside.places.now in
+    let at = c.in-Err.at in
+    let all : take used places ≡ held.records = ap (λ h. h.records) c.self.view_is in
+    let free : length held.records < held.room = omega (arith, ap length all, length-take-le used places (omega arith), c.room.ensures) in
+    let misses = subst (λ n. Misses f n held.records at) (ap g.R.Key.Key.rank c.key.ensures) c.in-Err.ensures.place.1 in
+    inserts f held.records held.room c.args.record at _ free misses (c.insert_at.ensures ∙ ap (λ xs. insert xs at c.args.record) all)
