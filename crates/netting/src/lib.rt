@@ -2,19 +2,27 @@
 #![tactic(auto)]
 
 ghost use Rattle.std.specs.Prelude.{◌≡◌, ℕ, ◌+◌, ◌≤◌};
+ghost use Rattle.quantities.specs.Ranges.{most_titles};
 ghost use Rattle.netting.specs.Rules.{Netting, net, gross, both_sides};
 ghost use Rattle.std.proofs.Common.{rules};
 
 use quantities::range::Titles;
 
+/// Titles bought and sold, at most 2,000,000 together.
+#[derive(Clone, Copy, PartialEq, Eq, Debug)]
+pub struct Position {
+    pub bought: Titles,
+    pub sold: Titles,
+    ghost together: { bought.count + sold.count ≤ most_titles },
+}
+
 /// A rule means one number of charged titles for each pair of bought and sold titles.
 pub trait NettingRule {
     ghost charged: { Self → ℕ → ℕ → ℕ };
 
-    /// The titles charged, for a position of at most 2,000,000 titles together.
-    fn charge(&self, bought: Titles, sold: Titles) -> Titles
-        requires { bought.count + sold.count ≤ 2000000 }
-        ensures answer { result.count ≡ charged self.now bought.count sold.count }
+    /// The titles charged.
+    fn charge(&self, position: Position) -> Titles
+        ensures answer { result.count ≡ charged self.now position.bought.count position.sold.count }
         ensures unchanged { self.exit.now ≡ self.entry.now };
 
     ghost nets: { (rule : Self) → Netting (charged rule) };
@@ -29,9 +37,9 @@ impl NettingRule for Net {
 
     ghost nets = { Prim.search rules };
 
-    fn charge(&self, bought: Titles, sold: Titles) -> Titles {
+    fn charge(&self, position: Position) -> Titles {
         Titles {
-            count: bought.count.abs_diff(sold.count),
+            count: position.bought.count.abs_diff(position.sold.count),
         }
     }
 }
@@ -45,9 +53,9 @@ impl NettingRule for Gross {
 
     ghost nets = { Prim.search rules };
 
-    fn charge(&self, bought: Titles, sold: Titles) -> Titles {
+    fn charge(&self, position: Position) -> Titles {
         Titles {
-            count: bought.count.max(sold.count),
+            count: position.bought.count.max(position.sold.count),
         }
     }
 }
@@ -61,9 +69,9 @@ impl NettingRule for BothSides {
 
     ghost nets = { Prim.search rules };
 
-    fn charge(&self, bought: Titles, sold: Titles) -> Titles {
+    fn charge(&self, position: Position) -> Titles {
         Titles {
-            count: bought.count + sold.count,
+            count: position.bought.count + position.sold.count,
         }
     }
 }

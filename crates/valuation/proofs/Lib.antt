@@ -1,6 +1,6 @@
 pub mod Picks
 pub mod Scopes
-pub mod Ready
+pub mod Worked
 pub mod Quotes
 pub mod Faults
 pub mod Charges

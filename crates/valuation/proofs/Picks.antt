@@ -1,11 +1,17 @@
 -- One turn of a loop over lines: what the rest of the lines gives, by the first of them and the rest after it.
-use Rattle.std.proofs.Common.{◌≡◌, ℕ, suc, ◌+◌, ◌*◌, ◌<◌, ◌≤◌, Bool, true, false, cond, ◌||◌, List, [], ◌∷◌, length, get_or, drop, sym, refl, ap, ◌∙◌, mul-le-mul_left, mul-add, arith}
+use Rattle.std.proofs.Common.{◌≡◌, ℕ, zero, suc, ◌+◌, ◌*◌, ◌<◌, ◌≤◌, Bool, true, false, cond, ◌||◌, List, [], ◌∷◌, length, get_or, drop, sym, refl, ap, ap₂, ◌∙◌, mul-le-mul_left, mul-add, inl, inr, arith}
+use Rattle.std.specs.List.{list_any, count_by, filter}
+use Rattle.std.proofs.lemmas.List.Sums.{length-filter}
 use Rattle.std.proofs.lemmas.List.{at_drop_more, at_drop_all}
-use Rattle.std.proofs.lemmas.Bool.{or_left}
-use Rattle.account.specs.declared.line.Side.TheVariants.{Bought}
+use Rattle.account.specs.declared.line.Side.{Side}
+use Rattle.account.specs.declared.line.Side.TheVariants.{Bought, Sold}
 use Rattle.account.specs.declared.line.Block.TheVariants.{Trade}
 use Rattle.account.specs.declared.line.Line.{Line}
-use Rattle.account.specs.Lines.{keep, sum_of, any}
+use Rattle.account.specs.Lines.{if_bought, if_sold, keep, sum_of, any}
+use Rattle.account.specs.Settings.{Setting}
+use Rattle.account.specs.Charges.{cash_up, cash_down, cash_charged, cash_credited}
+use Rattle.valuation.specs.declared.sums.PerSide.{PerSide}
+use Rattle.valuation.specs.Sums.{cash_of, Has, Sums}
 
 -- what stands past the end of a slice of lines
 abbrev pub no_line : Line
@@ -28,9 +34,12 @@ sum_first f p l ls = go (p l)
 pub summed_none : (f : Line → ℕ) (p : Line → Bool) (ls : List Line) → Summed f p ls 0 0
 summed_none f p ls = record { sum = omega arith }
 
-pub summed_more : {f : Line → ℕ} {p : Line → Bool} {ls : List Line} {k n : ℕ} (more : ℕ) → k < length ls → more ≡ cond (p (line_at ls k)) (f (line_at ls k)) 0 → Summed f p ls k n → Summed f p ls (k + 1) (n + more)
-summed_more {f} {p} {ls} {k} more h e s =
-    record { sum = omega (arith, at_drop_more (λ ms. sum_of f (keep p ms)) ls k no_line h ∙ sum_first f p (line_at ls k) (drop (k + 1) ls), s.sum) }
+pub summed_more : {f : Line → ℕ} {p : Line → Bool} {ls : List Line} {k n m : ℕ} (t : Bool) → k < length ls → t ≡ p (line_at ls k) → m ≡ n + cond t (f (line_at ls k)) 0 → Summed f p ls k n → Summed f p ls (k + 1) m
+summed_more {f} {p} {ls} {k} t h e d s =
+    record {
+      sum =
+          omega (arith, at_drop_more (λ ms. sum_of f (keep p ms)) ls k no_line h ∙ sum_first f p (line_at ls k) (drop (k + 1) ls), s.sum, ap {B = ℕ} (λ b. cond b (f (line_at ls k)) 0) e);
+    }
 
 pub summed_all : {f : Line → ℕ} {p : Line → Bool} {ls : List Line} {k n : ℕ} → length ls ≤ k → Summed f p ls k n → n ≡ sum_of f (keep p ls)
 summed_all {f} {p} {ls} {k} h s = omega (arith, at_drop_all (λ ms. sum_of f (keep p ms)) ls k h, s.sum)
@@ -49,9 +58,12 @@ count_first b p l ls = go (p l)
 pub bounded_none : (b : ℕ) (p : Line → Bool) (ls : List Line) → Bounded b p ls 0 0
 bounded_none b p ls = record { high = omega arith }
 
-pub bounded_more : {b : ℕ} {p : Line → Bool} {ls : List Line} {k n : ℕ} (more : ℕ) → k < length ls → more ≤ cond (p (line_at ls k)) b 0 → Bounded b p ls k n → Bounded b p ls (k + 1) (n + more)
-bounded_more {b} {p} {ls} {k} more h e s =
-    record { high = omega (arith, at_drop_more (λ ms. b * length (keep p ms)) ls k no_line h ∙ count_first b p (line_at ls k) (drop (k + 1) ls), s.high) }
+pub bounded_more : {b : ℕ} {p : Line → Bool} {ls : List Line} {k n m : ℕ} (t : Bool) → k < length ls → t ≡ p (line_at ls k) → m ≤ n + cond t b 0 → Bounded b p ls k n → Bounded b p ls (k + 1) m
+bounded_more {b} {p} {ls} {k} t h e d s =
+    record {
+      high =
+          omega (arith, at_drop_more (λ ms. b * length (keep p ms)) ls k no_line h ∙ count_first b p (line_at ls k) (drop (k + 1) ls), s.high, ap {B = ℕ} (λ c. cond c b 0) e);
+    }
 
 pub bounded_all : {b : ℕ} {p : Line → Bool} {ls : List Line} {k n : ℕ} → Bounded b p ls k n → n ≤ b * length (keep p ls)
 bounded_all s = omega (arith, s.high)
@@ -67,18 +79,45 @@ kept_length {X} p (x ∷ xs) = go (p x) (kept_length p xs)
 pub bounded_most : {b : ℕ} {p : Line → Bool} {ls : List Line} {k n : ℕ} → Bounded b p ls k n → n ≤ b * length ls
 bounded_most {b} {p} {ls} s = omega (arith, s.high, mul-le-mul_left b (kept_length p ls))
 
--- no line before the line k passes p
-pub record Sought (p : Line → Bool) (ls : List Line) (k : ℕ) : Type 0 where
-  pub rest : any p (drop k ls) ≡ any p ls
+-- ---- the words of the library for the same
+pub any_is : (p : Line → Bool) (ls : List Line) → list_any p ls ≡ any p ls
+any_is p [] = refl
+any_is p (l ∷ ls) = ap (λ b. p l || b) (any_is p ls)
 
-pub sought_none : (p : Line → Bool) (ls : List Line) → Sought p ls 0
-sought_none p ls = record { rest = refl }
+kept_is : (p : Line → Bool) (ls : List Line) → filter p ls ≡ keep p ls
+kept_is p [] = refl
+kept_is p (l ∷ ls) = ap (λ ms. cond (p l) (l ∷ ms) ms) (kept_is p ls)
 
-pub sought_more : {p : Line → Bool} {ls : List Line} {k : ℕ} → k < length ls → false ≡ p (line_at ls k) → Sought p ls k → Sought p ls (k + 1)
-sought_more {p} {ls} {k} h e s = record { rest = ap (λ b. b || any p (drop (k + 1) ls)) e ∙ sym (at_drop_more (any p) ls k no_line h) ∙ s.rest }
+pub count_is : (p : Line → Bool) (ls : List Line) → count_by p ls ≡ length (keep p ls)
+count_is p ls = sym (length-filter p ls) ∙ ap length (kept_is p ls)
 
-pub sought_here : {p : Line → Bool} {ls : List Line} {k : ℕ} → k < length ls → true ≡ p (line_at ls k) → Sought p ls k → true ≡ any p ls
-sought_here {p} {ls} {k} h e s = sym (at_drop_more (any p) ls k no_line h ∙ or_left _ _ (sym e)) ∙ s.rest
+-- ---- a line among lines
+pub has_at : (ls : List Line) (k : ℕ) → k < length ls → Has ls (line_at ls k)
+has_at [] k h = absurd (omega arith)
+has_at (l ∷ ls) zero h = inl refl
+has_at (l ∷ ls) (suc k) h = inr (has_at ls k (omega arith))
 
-pub sought_all : {p : Line → Bool} {ls : List Line} {k : ℕ} → length ls ≤ k → Sought p ls k → false ≡ any p ls
-sought_all {p} {ls} {k} h s = sym (at_drop_all (any p) ls k h) ∙ s.rest
+-- ---- a number on its side is no more than the number
+pub bought_most : (s : Side) (n m : ℕ) → n ≤ m → if_bought s n ≤ m
+bought_most Bought n m h = h
+bought_most Sold n m h = omega arith
+
+pub sold_most : (s : Side) (n m : ℕ) → n ≤ m → if_sold s n ≤ m
+sold_most Bought n m h = omega arith
+sold_most Sold n m h = h
+
+-- ---- the cash of a line counts on its side
+pub cash_sums : (s : Setting) (ls : List Line) {p : PerSide} → Sums (cash_of s) ls p → (p.bought ≡ cash_charged s ls) × (p.sold ≡ cash_credited s ls)
+cash_sums s ls e = (e.bought ∙ same (λ l. up l l.side) ls, e.sold ∙ same (λ l. down l l.side) ls)
+  where
+    same : {f h : Line → ℕ} → ((l : Line) → f l ≡ h l) → (ms : List Line) → sum_of f ms ≡ sum_of h ms
+    same e [] = refl
+    same e (m ∷ ms) = ap₂ ◌+◌ (e m) (same e ms)
+
+    up : (l : Line) (t : Side) → if_bought t (elim t [ Bought ↦ cash_up s l | Sold ↦ cash_down s l ]) ≡ if_bought t (cash_up s l)
+    up l Bought = refl
+    up l Sold = refl
+
+    down : (l : Line) (t : Side) → if_sold t (elim t [ Bought ↦ cash_up s l | Sold ↦ cash_down s l ]) ≡ if_sold t (cash_down s l)
+    down l Bought = refl
+    down l Sold = refl

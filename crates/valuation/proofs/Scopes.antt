@@ -11,9 +11,11 @@ use Rattle.account.specs.declared.row.Scope.TheVariants.{Trades, FailedLines, He
 use Rattle.account.specs.Lines.{Kind, trade, failed, held, cash_only, if_bought, if_sold, of, keep, sum_of}
 use Rattle.account.specs.Settings.{Setting}
 use Rattle.account.specs.Charges.{bought, sold}
+use Rattle.account.specs.Answers.{titles_of}
 use Rattle.account.specs.Rows.{block_of}
+use Rattle.valuation.specs.declared.sums.PerSide.{PerSide}
+use Rattle.valuation.specs.Sums.{Sums}
 use Rattle.valuation.specs.Scopes.{takes_part, picked, lines_in}
-use Rattle.valuation.specs.Workable.{Workable}
 use Rattle.valuation.proofs.Picks.{kept_length}
 
 pub lines_split : (s : Setting) (i : Isin) (scope : Scope) (ls : List Line) → lines_in s i scope ls ≡ keep (takes_part s scope) (keep (of i (block_of scope)) ls)
@@ -42,18 +44,21 @@ kept_less f p (l ∷ ls) = go (p l) (kept_less f p ls)
     go true h = omega arith
     go false h = omega arith
 
-pub titles_within : {s : Setting} {ls : List Line} → Workable s ls → (i : Isin) (scope : Scope) → bought (lines_in s i scope ls) + sold (lines_in s i scope ls) ≤ most_titles
-titles_within {s} {ls} w i scope =
+titles_within : (s : Setting) (ls : List Line) → ((i : Isin) (k : Kind) → titles_of i k ls ≤ most_titles) → (i : Isin) (scope : Scope) → bought (lines_in s i scope ls) + sold (lines_in s i scope ls) ≤ most_titles
+titles_within s ls titles i scope =
     let k : List Line = keep (of i (block_of scope)) ls in
     let e : sum_of (λ (l : Line). l.titles) (lines_in s i scope ls) ≡ sum_of (λ (l : Line). l.titles) (keep (takes_part s scope) k) = ap (sum_of (λ (l : Line). l.titles)) (lines_split s i scope ls) in
-    omega (arith, both_titles (lines_in s i scope ls), e, kept_less (λ (l : Line). l.titles) (takes_part s scope) k, w.titles i (block_of scope))
+    omega (arith, both_titles (lines_in s i scope ls), e, kept_less (λ (l : Line). l.titles) (takes_part s scope) k, titles i (block_of scope))
+
+pub sums_within : (s : Setting) (ls : List Line) → ((i : Isin) (k : Kind) → titles_of i k ls ≤ most_titles) → (i : Isin) (scope : Scope) {p : PerSide} → Sums (λ l. l.titles) (lines_in s i scope ls) p → p.bought + p.sold ≤ most_titles
+sums_within s ls titles i scope e = omega (arith, e.bought, e.sold, titles_within s ls titles i scope)
 
 -- ---- how many they are
-pub lines_few : {s : Setting} {ls : List Line} → Workable s ls → (i : Isin) (scope : Scope) → length (lines_in s i scope ls) ≤ 65535
-lines_few {s} {ls} w i scope = omega (arith, kept_length (picked s i scope) ls, w.few)
+pub lines_few : (s : Setting) (ls : List Line) → length ls ≤ 65535 → (i : Isin) (scope : Scope) → length (lines_in s i scope ls) ≤ 65535
+lines_few s ls few i scope = omega (arith, kept_length (picked s i scope) ls)
 
-pub block_few : {s : Setting} {ls : List Line} → Workable s ls → (i : Isin) (k : Kind) → length (keep (of i k) ls) ≤ 65535
-block_few {s} {ls} w i k = omega (arith, kept_length (of i k) ls, w.few)
+pub block_few : (ls : List Line) → length ls ≤ 65535 → (i : Isin) (k : Kind) → length (keep (of i k) ls) ≤ 65535
+block_few ls few i k = omega (arith, kept_length (of i k) ls)
 
 pub lines_fewer : (s : Setting) (i : Isin) (scope : Scope) (ls : List Line) → length (lines_in s i scope ls) ≤ length (keep (of i (block_of scope)) ls)
 lines_fewer s i scope ls = omega (arith, ap length (lines_split s i scope ls), kept_length (takes_part s scope) (keep (of i (block_of scope)) ls))

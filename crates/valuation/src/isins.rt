@@ -14,10 +14,7 @@ fn comes_after(after: Option<Isin>, isin: Isin) -> bool
 {
     match after {
         None => true,
-        Some(last) => match byte_order(&last.bytes, &isin.bytes) {
-            Ordering::Less => true,
-            _ => false,
-        },
+        Some(last) => byte_order(&last.bytes, &isin.bytes).is_lt(),
     }
 }
 

@@ -1,12 +1,14 @@
 //! The margin of lines: the check by reference, the sums and rows of each ISIN, and their total.
 #![tactic(auto)]
 
+mod basis;
 pub mod block;
 mod check;
 mod isins;
 pub mod margin;
 pub mod portfolio;
 mod quote;
+mod ready;
 mod rows;
 mod scope;
 mod setup;

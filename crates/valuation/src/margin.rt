@@ -2,19 +2,15 @@
 ghost use Rattle.std.specs.Prelude.{◌≡◌, ◌+◌, ◌*◌, ◌≤◌, length};
 ghost use Rattle.account.specs.Lines.{is_trade, keep};
 ghost use Rattle.account.specs.Margin.{not_below_zero};
-ghost use Rattle.valuation.specs.Setups.{setting_of};
 ghost use Rattle.valuation.specs.Spaces.{ChargesWithin, TallyWithin};
 ghost use Rattle.valuation.specs.Statements.{Stated};
-ghost use Rattle.valuation.specs.Workable.{Workable};
 
-use crate::setup::Setup;
+use crate::basis::Basis;
+use crate::ready::ReadyLines;
 use crate::tally::Tally;
-use crate::walk::add_rows;
 use account::call::Margin;
 use account::line::{Block, Line};
 use account::row::Row;
-use curve::Curve;
-use netting::NettingRule;
 use quantities::amount::{Cents, SignedCents};
 
 /// A margin, and how many rows its statement has.
@@ -30,13 +26,7 @@ fn not_below_zero(charges: SignedCents) -> Cents
     ensures is { result ≡ not_below_zero charges }
     ensures high { result ≤ 3000000000000 * 65535 }
 {
-    if charges < 0 { 0 } else { charges as u64 }
-}
-
-fn is_trade(line: &Line) -> bool
-    ensures { result ≡ is_trade line.now }
-{
-    matches!(line.block, Block::Trade(_))
+    charges.max(0) as u64
 }
 
 // How many lines are trades.
@@ -45,13 +35,10 @@ fn trades_in(lines: &[Line]) -> u32
     ensures is { result ≡ length (keep is_trade lines.now) }
     ensures few { result ≤ 65535 }
 {
-    let mut trades = 0;
-    for line in lines {
-        if is_trade(line) {
-            trades += 1;
-        }
-    }
-    trades
+    let trades = lines
+        .iter()
+        .filter(|line| matches!(line.block, Block::Trade(_)));
+    trades.count() as u32
 }
 
 // The margin of a tally, for so many trades: a present value is rounded for each.
@@ -70,19 +57,16 @@ fn total(tally: &Tally<'_>, trades: u32) -> Margin
     }
 }
 
-/// The margin of lines; the rows of its statement are written as far as there are places.
-pub(crate) fn margin_of<C: Curve, N: NettingRule>(
-    setup: &Setup<'_, '_, C, N>,
-    lines: &[Line],
-    rows: &mut [Row],
-) -> Statement
-    requires { Workable (setting_of C.Curve.reach C.Curve.rate N.NettingRule.charged setup.now) lines.now }
-    ensures { Stated (setting_of C.Curve.reach C.Curve.rate N.NettingRule.charged setup.now) lines.now rows.old rows.new result }
-{
-    let mut tally = Tally::new(rows);
-    add_rows(setup, lines, &mut tally);
-    Statement {
-        margin: total(&tally, trades_in(lines)),
-        rows: tally.count,
+impl<'a, B: Basis> ReadyLines<'a, B> {
+    /// The margin of the lines; the rows of its statement are written as far as there are places.
+    pub(crate) fn statement(&self, rows: &mut [Row]) -> Statement
+        ensures { Stated (B.setting self.now.basis.now) self.now.lines.now rows.old rows.new result }
+    {
+        let mut tally = Tally::new(rows);
+        self.add_rows(&mut tally);
+        Statement {
+            margin: total(&tally, trades_in(self.lines)),
+            rows: tally.count,
+        }
     }
 }

@@ -1,22 +1,19 @@
 //! The titles and the cash of the lines that a row is worked on.
-ghost use Rattle.std.specs.Prelude.{◌≡◌, ◌+◌, ◌*◌, ◌≤◌, length};
-ghost use Rattle.account.specs.Charges.{bought, sold, cash_up, cash_down, cash_charged, cash_credited};
+ghost use Rattle.std.specs.Prelude.{◌≡◌, ℕ, ◌+◌, ◌<◌, ◌≤◌, ◌^◌, length};
+ghost use Rattle.account.specs.declared.line.Line.{Line};
+ghost use Rattle.account.specs.Charges.{bought, sold, cash_charged, cash_credited};
 ghost use Rattle.account.specs.Lines.{if_bought, if_sold};
-ghost use Rattle.quantities.specs.Ranges.{most_titles};
 ghost use Rattle.valuation.specs.Scopes.{lines_in};
-ghost use Rattle.valuation.specs.Setups.{setting_of};
-ghost use Rattle.valuation.specs.Sums.{if_picked, cash_of};
-ghost use Rattle.valuation.specs.Workable.{Ready, Workable};
+ghost use Rattle.valuation.specs.Sums.{cash_of, Has, Sums, Bounds};
+ghost use Rattle.valuation.specs.Workable.{Ready};
 
-use crate::scope::is_picked;
-use crate::setup::Setup;
+use crate::basis::Basis;
+use crate::ready::ReadyLines;
+use crate::scope::RowKey;
 use account::line::{Block, Line, Side};
-use account::row::Scope;
-use curve::Curve;
-use netting::NettingRule;
+use netting::Position;
 use quantities::amount::{Cents, present_value_down, present_value_up};
 use quantities::date::term_days;
-use quantities::isin::Isin;
 use quantities::range::{Cash, Term, Titles};
 
 /// A sum over the lines bought, and one over the lines sold.
@@ -27,79 +24,24 @@ pub(crate) struct PerSide {
 }
 
 impl PerSide {
-    // A number on its side, and nothing on the other.
-    fn on(side: Side, number: u64) -> PerSide
-        ensures bought { result.bought ≡ if_bought side number }
-        ensures sold { result.sold ≡ if_sold side number }
+    // Adds a number on a side.
+    fn add(&mut self, side: Side, number: u64)
+        requires bought { self.old.bought + number < 2 ^ 64 }
+        requires sold { self.old.sold + number < 2 ^ 64 }
+        ensures bought { self.new.bought ≡ self.old.bought + if_bought side number }
+        ensures sold { self.new.sold ≡ self.old.sold + if_sold side number }
     {
         match side {
-            Side::Bought => PerSide {
-                bought: number,
-                sold: 0,
-            },
-            Side::Sold => PerSide {
-                bought: 0,
-                sold: number,
-            },
+            Side::Bought => self.bought += number,
+            Side::Sold => self.sold += number,
         }
     }
 }
 
-// The titles of a line, where it is worked on.
-fn picked_titles<C: Curve, N: NettingRule>(
-    setup: &Setup<'_, '_, C, N>,
-    line: &Line,
-    isin: Isin,
-    scope: Scope,
-) -> PerSide
-    ensures bought { result.bought ≡ if_picked (setting_of C.Curve.reach C.Curve.rate N.NettingRule.charged setup.now) isin scope line.now (if_bought line.now.side line.now.titles) }
-    ensures sold { result.sold ≡ if_picked (setting_of C.Curve.reach C.Curve.rate N.NettingRule.charged setup.now) isin scope line.now (if_sold line.now.side line.now.titles) }
-{
-    if is_picked(setup, line, isin, scope) {
-        PerSide::on(line.side, u64::from(line.titles))
-    } else {
-        PerSide { bought: 0, sold: 0 }
-    }
-}
-
-/// The titles of the lines that a row is worked on.
-#[derive(Clone, Copy)]
-pub(crate) struct Position {
-    pub bought: Titles,
-    pub sold: Titles,
-}
-
-/// The titles bought and sold of the lines that a row is worked on.
-pub(crate) fn titles_in<C: Curve, N: NettingRule>(
-    setup: &Setup<'_, '_, C, N>,
-    lines: &[Line],
-    isin: Isin,
-    scope: Scope,
-) -> Position
-    requires { Workable (setting_of C.Curve.reach C.Curve.rate N.NettingRule.charged setup.now) lines.now }
-    ensures bought { result.bought.count ≡ bought (lines_in (setting_of C.Curve.reach C.Curve.rate N.NettingRule.charged setup.now) isin scope lines.now) }
-    ensures sold { result.sold.count ≡ sold (lines_in (setting_of C.Curve.reach C.Curve.rate N.NettingRule.charged setup.now) isin scope lines.now) }
-    ensures together { result.bought.count + result.sold.count ≤ most_titles }
-{
-    let mut bought = 0;
-    let mut sold = 0;
-    for line in lines {
-        let more = picked_titles(setup, line, isin, scope);
-        bought += more.bought;
-        sold += more.sold;
-    }
-    Position {
-        bought: Titles {
-            count: bought as u32,
-        },
-        sold: Titles { count: sold as u32 },
-    }
-}
-
 // The cash of a line: that of a trade is discounted, up where it is charged and down where it is credited.
-fn cash_of<C: Curve, N: NettingRule>(setup: &Setup<'_, '_, C, N>, line: &Line) -> Cents
-    requires { Ready (setting_of C.Curve.reach C.Curve.rate N.NettingRule.charged setup.now) line.now }
-    ensures is { result ≡ cash_of (setting_of C.Curve.reach C.Curve.rate N.NettingRule.charged setup.now) line.now }
+fn cash_of<B: Basis>(basis: &B, line: Line) -> Cents
+    requires { Ready (B.setting basis.now) line }
+    ensures is { result ≡ cash_of (B.setting basis.now) line }
     ensures high { result ≤ 2000000000000 }
 {
     let Block::Trade(date) = line.block else {
@@ -107,9 +49,9 @@ fn cash_of<C: Curve, N: NettingRule>(setup: &Setup<'_, '_, C, N>, line: &Line) -
     };
     let cash = Cash { cents: line.cash };
     let term = Term {
-        days: term_days(setup.market.today(), date),
+        days: term_days(basis.today(), date),
     };
-    match setup.curve.rate_for(term.days) {
+    match basis.rate_for(term.days) {
         Ok(rate) => match line.side {
             Side::Bought => present_value_up(cash, rate, term),
             Side::Sold => present_value_down(cash, rate, term),
@@ -118,45 +60,45 @@ fn cash_of<C: Curve, N: NettingRule>(setup: &Setup<'_, '_, C, N>, line: &Line) -
     }
 }
 
-// The cash of a line, where it is worked on.
-fn picked_cash<C: Curve, N: NettingRule>(
-    setup: &Setup<'_, '_, C, N>,
-    line: &Line,
-    isin: Isin,
-    scope: Scope,
-) -> PerSide
-    requires { Ready (setting_of C.Curve.reach C.Curve.rate N.NettingRule.charged setup.now) line.now }
-    ensures bought { result.bought ≡ if_picked (setting_of C.Curve.reach C.Curve.rate N.NettingRule.charged setup.now) isin scope line.now (if_bought line.now.side (cash_up (setting_of C.Curve.reach C.Curve.rate N.NettingRule.charged setup.now) line.now)) }
-    ensures sold { result.sold ≡ if_picked (setting_of C.Curve.reach C.Curve.rate N.NettingRule.charged setup.now) isin scope line.now (if_sold line.now.side (cash_down (setting_of C.Curve.reach C.Curve.rate N.NettingRule.charged setup.now) line.now)) }
-    ensures charged { result.bought ≤ if_picked (setting_of C.Curve.reach C.Curve.rate N.NettingRule.charged setup.now) isin scope line.now 2000000000000 }
-    ensures credited { result.sold ≤ if_picked (setting_of C.Curve.reach C.Curve.rate N.NettingRule.charged setup.now) isin scope line.now 2000000000000 }
-{
-    if is_picked(setup, line, isin, scope) {
-        PerSide::on(line.side, cash_of(setup, line))
-    } else {
-        PerSide { bought: 0, sold: 0 }
+impl<'a, B: Basis> ReadyLines<'a, B> {
+    // The sums of a number of each line that a row is worked on.
+    fn per_side<F: Fn(Line) -> u64>(&self, key: RowKey, number: F) -> PerSide
+        requires asked { (l : Line) → Has self.now.lines.now l → F.pre number l }
+        requires high { (l : Line) (n : ℕ) → F.post number l n → n ≤ 2000000000000 }
+        ensures sums { (meant : Line → ℕ) → ((l : Line) (n : ℕ) → F.post number l n → n ≡ meant l) → Sums meant (lines_in (B.setting self.now.basis.now) key.isin key.scope self.now.lines.now) result }
+        ensures within { Bounds (length (lines_in (B.setting self.now.basis.now) key.isin key.scope self.now.lines.now)) result }
+    {
+        let mut sums = PerSide { bought: 0, sold: 0 };
+        for line in self.lines {
+            if key.picks(self.basis, line) {
+                sums.add(line.side, number(*line));
+            }
+        }
+        sums
     }
-}
 
-/// The pair of cash sums of the lines that a row is worked on: of those bought, and of those sold.
-pub(crate) fn cash_in<C: Curve, N: NettingRule>(
-    setup: &Setup<'_, '_, C, N>,
-    lines: &[Line],
-    isin: Isin,
-    scope: Scope,
-) -> (Cents, Cents)
-    requires { Workable (setting_of C.Curve.reach C.Curve.rate N.NettingRule.charged setup.now) lines.now }
-    ensures bought { result.0 ≡ cash_charged (setting_of C.Curve.reach C.Curve.rate N.NettingRule.charged setup.now) (lines_in (setting_of C.Curve.reach C.Curve.rate N.NettingRule.charged setup.now) isin scope lines.now) }
-    ensures sold { result.1 ≡ cash_credited (setting_of C.Curve.reach C.Curve.rate N.NettingRule.charged setup.now) (lines_in (setting_of C.Curve.reach C.Curve.rate N.NettingRule.charged setup.now) isin scope lines.now) }
-    ensures charged { result.0 ≤ 2000000000000 * length (lines_in (setting_of C.Curve.reach C.Curve.rate N.NettingRule.charged setup.now) isin scope lines.now) }
-    ensures credited { result.1 ≤ 2000000000000 * length (lines_in (setting_of C.Curve.reach C.Curve.rate N.NettingRule.charged setup.now) isin scope lines.now) }
-{
-    let mut bought = 0;
-    let mut sold = 0;
-    for line in lines {
-        let more = picked_cash(setup, line, isin, scope);
-        bought += more.bought;
-        sold += more.sold;
+    /// The titles bought and sold of the lines that a row is worked on.
+    pub(crate) fn titles_in(&self, key: RowKey) -> Position
+        ensures bought { result.bought.count ≡ bought (lines_in (B.setting self.now.basis.now) key.isin key.scope self.now.lines.now) }
+        ensures sold { result.sold.count ≡ sold (lines_in (B.setting self.now.basis.now) key.isin key.scope self.now.lines.now) }
+    {
+        let sums = self.per_side(key, |line| u64::from(line.titles));
+        Position {
+            bought: Titles {
+                count: sums.bought as u32,
+            },
+            sold: Titles {
+                count: sums.sold as u32,
+            },
+        }
     }
-    (bought, sold)
+
+    /// The cash of the lines that a row is worked on: charged where bought, credited where sold.
+    pub(crate) fn cash_in(&self, key: RowKey) -> PerSide
+        ensures bought { result.bought ≡ cash_charged (B.setting self.now.basis.now) (lines_in (B.setting self.now.basis.now) key.isin key.scope self.now.lines.now) }
+        ensures sold { result.sold ≡ cash_credited (B.setting self.now.basis.now) (lines_in (B.setting self.now.basis.now) key.isin key.scope self.now.lines.now) }
+        ensures within { Bounds (length (lines_in (B.setting self.now.basis.now) key.isin key.scope self.now.lines.now)) result }
+    {
+        self.per_side(key, |line| cash_of(self.basis, line))
+    }
 }

@@ -5,8 +5,8 @@ ghost use Rattle.valuation.specs.Statements.{States};
 ghost use Rattle.std.specs.Prelude.{◌≡◌};
 
 use super::Portfolio;
-use crate::check::check_lines;
-use crate::margin::{Statement, margin_of};
+use crate::margin::Statement;
+use crate::ready::ReadyLines;
 use crate::setup::Setup;
 use account::call::{LineRefusal, Margin};
 use account::row::Row;
@@ -24,19 +24,14 @@ impl<'a, 'p, C: Curve, N: NettingRule> Portfolio<'a, 'p, C, N> {
             curve: self.curve,
             rule: self.rule,
         };
-        match check_lines(&setup, self.lines) {
-            Some(refusal) => Err(refusal),
-            None => Ok(margin_of(&setup, self.lines, rows)),
-        }
+        let ready = ReadyLines::check(&setup, self.lines)?;
+        Ok(ready.statement(rows))
     }
 
     /// The margin, without its statement.
     pub fn margin(&self) -> Result<Margin, LineRefusal>
         ensures { told_margin result ≡ margin_answer (setting_with (C.Curve.reach self.now.curve.now) (C.Curve.rate self.now.curve.now) (N.NettingRule.charged self.now.rule.now) self.now.market.now) self.now.lines.now }
     {
-        match self.statement(&mut []) {
-            Ok(statement) => Ok(statement.margin),
-            Err(refusal) => Err(refusal),
-        }
+        self.statement(&mut []).map(|statement| statement.margin)
     }
 }

@@ -1,14 +1,12 @@
-use Rattle.valuation.proofs.Picks.{sought_none, sought_more, sought_here, sought_all}
+use Rattle.std.proofs.Common.{◌∙◌, rules, tests}
+use Rattle.std.proofs.lemmas.Iterator.{YieldsList-from_slice}
+use Rattle.std.proofs.lemmas.Iterator.Search.{any_from_yields_List}
+use Rattle.account.specs.Lines.{of}
+use Rattle.valuation.specs.Kinds.{kind_of}
+use Rattle.valuation.proofs.Picks.{any_is}
 use Rattle.valuation.proofs.block.has_lines.Goals as goal
 
-pub loop-line-init : goal.loop-line-init
-loop-line-init c = sought_none _ _
-
-pub returns-then-is_of : goal.returns-then-is_of
-returns-then-is_of c = sought_here c.loop-line-test.true c.if-is_of.ensures c.loop-line.invariant
-
-pub loop-line-preserved : goal.loop-line-preserved
-loop-line-preserved c = sought_more c.loop-line-test.true c.if-is_of.ensures c.loop-line.invariant
-
 pub returns : goal.returns
-returns c = sought_all c.loop-line-test.false c.loop-line.invariant
+returns c =
+    any_from_yields_List (of c.args.isin (kind_of c.args.kind)) _ _ _ c.any.ensures.ran (YieldsList-from_slice c.args.lines.now cc) (λ x b q k. search (rules, tests))
+    ∙ any_is (of c.args.isin (kind_of c.args.kind)) c.args.lines.now

@@ -1,19 +1,15 @@
-use Rattle.std.proofs.Common.{sym, ◌∙◌, ap₂}
-use Rattle.account.specs.Calls.{given}
-use Rattle.valuation.specs.Setups.{setting_with}
-use Rattle.valuation.proofs.Faults.{clear_given}
-use Rattle.valuation.proofs.Taken.{workable}
+use Rattle.std.proofs.Common.{refl, sym, ap}
+use Rattle.std.proofs.lemmas.Result.{err_from_is_err_and}
+use Rattle.valuation.specs.Setups.{setting_of}
+use Rattle.valuation.proofs.Faults.{states}
 use Rattle.valuation.proofs.portfolio.Portfolio.statement.Goals as goal
 
-pub margin_of-requires : goal.margin_of-requires
-margin_of-requires g c =
-    let p = c.args.self.now in
-    let s = setting_with (g.C.Curve.reach p.curve.now) (g.C.Curve.rate p.curve.now) (g.N.NettingRule.charged p.rule.now) p.market.now in
-    workable s p.lines.now p.few p.taken p.titles c.in-None.ensures
+pub returns : goal.returns
+returns g c =
+    let e = c.in_ok-ready.ensures in
+    states (ap (setting_of g.C.Curve.reach g.C.Curve.rate g.N.NettingRule.charged) e.0) e.1 c.in_ok-ready.ready.faultless c.statement.ensures
 
-pub returns-in-None : goal.returns-in-None
-returns-in-None g c =
-    let p = c.args.self.now in
-    let s = setting_with (g.C.Curve.reach p.curve.now) (g.C.Curve.rate p.curve.now) (g.N.NettingRule.charged p.rule.now) p.market.now in
-    let m = c.margin_of.ensures in
-    (ap₂ given m.cents m.rounded ∙ sym (clear_given s p.lines.now p.lines.now c.in-None.ensures), m.count, m.places)
+pub returns-in_err-ready : goal.returns-in_err-ready
+returns-in_err-ready g c =
+    let p = err_from_is_err_and c.from_residual.result c.from_residual.ensures.1 in
+    rw (p.1, p.2) (sym (c.in_err-ready.ensures c.args.self.now.lines.now), refl)
