@@ -5,7 +5,7 @@ use account::line::{Block, Line, Side};
 use curve::point::Point;
 use curve::point::points::Points;
 use curve::step::StepCurve;
-use dealing::work::{Ledger, work_three_books};
+use book::work::{Ledger, work_three_books};
 use market::day::Day;
 use market::market::Market;
 use market::price::{Percentage, Price};

@@ -6,18 +6,21 @@ use Rattle.curve.specs.declared.point.Point.{Point}
 use Rattle.curve.specs.Points.{reach_of, step_rate}
 use Rattle.quantities.specs.declared.isin.Isin.{Isin}
 use Rattle.quantities.specs.declared.tranche.Tranche.TheVariants.{UpToOneYear, UpToTenYears}
-use Rattle.book.specs.declared.line.Line.{Line}
-use Rattle.book.specs.declared.line.Side.{Side}
-use Rattle.book.specs.declared.line.Side.TheVariants.{Bought, Sold}
-use Rattle.book.specs.declared.line.Block.{Block}
-use Rattle.book.specs.declared.line.Block.TheVariants.{Trade, Failed, Held, CashOnly}
-use Rattle.book.specs.declared.market.Price.{Price}
-use Rattle.book.specs.declared.market.Percentage.{Percentage}
-use Rattle.book.specs.Lines.{Kind, trade, failed, cash_only}
-use Rattle.book.specs.Settings.{Setting}
-use Rattle.book.specs.Rows.{Row}
-use Rattle.book.specs.Exact.{Fraction}
-use Rattle.book.specs.Calls.{Event, enter, withdraw, ask_margin, accepted, refused, given}
+use Rattle.account.specs.declared.line.Line.{Line}
+use Rattle.account.specs.declared.line.Side.{Side}
+use Rattle.account.specs.declared.line.Side.TheVariants.{Bought, Sold}
+use Rattle.account.specs.declared.line.Block.{Block}
+use Rattle.account.specs.declared.line.Block.TheVariants.{Trade, Failed, Held, CashOnly}
+use Rattle.account.specs.declared.row.Scenario.{Scenario}
+use Rattle.account.specs.declared.row.Scope.{Scope}
+use Rattle.account.specs.declared.row.Scope.TheVariants.{Trades, FailedLines, CashOnlyLines}
+use Rattle.account.specs.declared.row.Row.{Row}
+use Rattle.account.specs.declared.call.Call.TheVariants.{Enter, Withdraw, AskMargin}
+use Rattle.account.specs.Settings.{Setting}
+use Rattle.account.specs.Exact.{Fraction}
+use Rattle.account.specs.Calls.{Event, accepted, refused, given}
+use Rattle.market.specs.declared.price.Price.{Price}
+use Rattle.market.specs.declared.price.Percentage.{Percentage}
 
 abbrev pub first : Isin
 first = record { bytes = codes "ES0000001018" }
@@ -77,12 +80,12 @@ lines =
     ∷ (line 3 second Bought 3 300000 (Failed 8998)
     ∷ (line 4 first Bought 0 2500 (CashOnly 9000) ∷ [])))
 
-abbrev pub row : Isin → Kind → ℕ → ℕ → ℤ → Row
-row i block scenario initial variation = record { isin = i; block = block; scenario = scenario; initial_margin = initial; variation_margin = variation }
+abbrev pub row : Isin → Scope → ℕ → ℤ → Row
+row i scope initial variation = record { isin = i; scope = scope; initial_margin = initial; variation_margin = variation }
 
 -- the statement of those lines, by the scenario of its trade row
-abbrev pub statement : ℕ → List Row
-statement scenario = row first trade scenario 2020000 (pos 1000000) ∷ (row first cash_only 0 2500 (pos 0) ∷ (row second failed 0 1500 (negsuc 0) ∷ []))
+abbrev pub statement : Scenario → List Row
+statement scenario = row first (Trades scenario) 2020000 (pos 1000000) ∷ (row first CashOnlyLines 2500 (pos 0) ∷ (row second FailedLines 1500 (negsuc 0) ∷ []))
 
 -- two fractions, compared by cross-multiplying
 abbrev pub Equal : Fraction → Fraction → Type 0
@@ -116,13 +119,34 @@ three_paid = line 2 second Bought 3 0 (Failed 8998)
 abbrev pub cash_both_ways : List Line
 cash_both_ways = line 1 first Bought 0 100 (CashOnly 9000) ∷ (line 2 second Sold 0 160 (CashOnly 9000) ∷ [])
 
+-- bought titles of one ISIN that settle today
+abbrev pub bought_today : ℕ → ℕ → Line
+bought_today r titles = line r first Bought titles 100 (Trade 9000)
+
 -- four lines are entered, of which the last is refused; then line 2 is withdrawn, and a margin is given
 abbrev pub calls : List Event
 calls =
-    (enter (ten_sold 900000 9000), accepted)
-    ∷ ((enter ten_bought, accepted)
-    ∷ ((enter (line 3 first Bought 0 100 (CashOnly 9000)), accepted)
-    ∷ ((enter (line 4 first Bought 1 100 (Trade 9500)), refused 7 4)
-    ∷ ((withdraw 2, accepted)
-    ∷ ((withdraw 9, refused 13 9)
-    ∷ ((ask_margin, given 10300 3) ∷ []))))))
+    (Enter (ten_sold 900000 9000), accepted)
+    ∷ ((Enter ten_bought, accepted)
+    ∷ ((Enter (line 3 first Bought 0 100 (CashOnly 9000)), accepted)
+    ∷ ((Enter (line 4 first Bought 1 100 (Trade 9500)), refused 7 4)
+    ∷ ((Withdraw 2, accepted)
+    ∷ ((Withdraw 9, refused 13 9)
+    ∷ ((AskMargin, given 10300 3) ∷ []))))))
+
+-- each refusal of an enter and of a withdrawal, where there is room for two lines
+abbrev pub refusals : List Event
+refusals =
+    (Enter (bought_today 0 1), refused 4 0)
+    ∷ ((Enter (bought_today 7 2000000), accepted)
+    ∷ ((Enter (line 8 first Bought 0 100 (Held 9000)), refused 4 8)
+    ∷ ((Enter (line 8 first Bought 1 100 (CashOnly 9000)), refused 4 8)
+    ∷ ((Enter (line 8 first Bought 1 1000000000001 (Held 9000)), refused 4 8)
+    ∷ ((Enter (line 7 first Bought 1 100 (Held 9001)), refused 6 7)
+    ∷ ((Enter (line 8 first Bought 1 100 (Held 9001)), refused 7 8)
+    ∷ ((Enter (bought_today 8 1), refused 8 8)
+    ∷ ((Enter (line 8 first Sold 2000000 100 (Held 9000)), accepted)
+    ∷ ((Enter (line 9 second Sold 1 100 (Held 9000)), refused 9 9)
+    ∷ ((Withdraw 0, refused 4 0)
+    ∷ ((Withdraw 9, refused 13 9)
+    ∷ ((Withdraw 7, accepted) ∷ []))))))))))))

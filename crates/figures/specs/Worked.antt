@@ -9,14 +9,16 @@ use Rattle.quantities.specs.Tranches.{tranche}
 use Rattle.curve.specs.declared.point.Point.{Point}
 use Rattle.curve.specs.Points.{reach_of, step_rate, sloping_rate}
 use Rattle.netting.specs.Rules.{net, gross, both_sides}
-use Rattle.book.specs.declared.line.Side.TheVariants.{Bought, Sold}
-use Rattle.book.specs.declared.line.Block.TheVariants.{Held, CashOnly}
-use Rattle.book.specs.Lines.{trade, held}
-use Rattle.book.specs.Settings.{Setting}
-use Rattle.book.specs.Rows.{statement_rows}
-use Rattle.book.specs.Exact.{over, exact_margin}
-use Rattle.book.specs.Calls.{refused, given, standing, margin_answer}
-use Rattle.figures.specs.Account.{first, second, first_price, prices, short_percentage, percentages, flat, peak, setting, by, line, lines, row, statement, Equal, ten_bought, ten_sold, cents_both_ways, three_both_ways, three_paid, cash_both_ways, calls}
+use Rattle.account.specs.declared.line.Side.TheVariants.{Bought, Sold}
+use Rattle.account.specs.declared.line.Block.TheVariants.{Held, CashOnly}
+use Rattle.account.specs.declared.row.Scenario.TheVariants.{AllTrades, WithoutToday, WithoutNext}
+use Rattle.account.specs.declared.row.Scope.TheVariants.{Trades, HeldLines}
+use Rattle.account.specs.Settings.{Setting}
+use Rattle.account.specs.Rows.{statement_rows}
+use Rattle.account.specs.Exact.{over, exact_margin}
+use Rattle.account.specs.Calls.{accepted, refused, given, standing}
+use Rattle.account.specs.Answers.{enter_answer, margin_answer, EachDue}
+use Rattle.figures.specs.Account.{first, second, first_price, prices, short_percentage, percentages, flat, peak, setting, by, line, lines, row, statement, Equal, ten_bought, ten_sold, cents_both_ways, three_both_ways, three_paid, cash_both_ways, bought_today, calls, refusals}
 
 -- the points (10, 100) and (20, 95)
 abbrev two_points : List Point
@@ -58,26 +60,32 @@ pub record Worked : Type 0 where
   pub account_margin : margin_answer (by net) lines ≡ given 1024001 6
   -- its exact margin is 1,024,000.2985
   pub account_exact : Equal (exact_margin (by net) lines) (over (pos 10240002985) 10000)
-  pub account_rows : statement_rows (by net) lines ≡ statement 3
-  pub account_rows_gross : statement_rows (by gross) lines ≡ statement 1
+  pub account_rows : statement_rows (by net) lines ≡ statement WithoutNext
+  pub account_rows_gross : statement_rows (by gross) lines ≡ statement AllTrades
   pub no_second_price : margin_answer (setting (first_price ∷ []) percentages 365 flat net) lines ≡ refused 10 3
   pub no_percentage : margin_answer (setting prices (short_percentage ∷ []) 365 flat net) lines ≡ refused 11 1
   pub no_rate : margin_answer (setting prices percentages 100 flat net) lines ≡ refused 12 1
   pub empty_margin : (s : Setting) → margin_answer s [] ≡ given 0 0
   -- the largest charge has no initial margin
-  pub worst_by_charge : statement_rows (by net) (ten_bought ∷ (ten_sold 900000 9000 ∷ [])) ≡ row first trade 1 0 (negsuc 99999) ∷ []
+  pub worst_by_charge : statement_rows (by net) (ten_bought ∷ (ten_sold 900000 9000 ∷ [])) ≡ row first (Trades AllTrades) 0 (negsuc 99999) ∷ []
   -- a surplus that settles today leaves scenario 2 without lines
-  pub none_left : statement_rows (by net) (ten_sold 2000000 9000 ∷ []) ≡ row first trade 2 0 (pos 0) ∷ []
+  pub none_left : statement_rows (by net) (ten_sold 2000000 9000 ∷ []) ≡ row first (Trades WithoutToday) 0 (pos 0) ∷ []
   -- each trade is discounted at the rate of its own term
-  pub rates_by_term : statement_rows (setting prices percentages 365 peak net) (ten_bought ∷ (ten_sold 1010000 9051 ∷ [])) ≡ row first trade 1 0 (pos 10000) ∷ []
+  pub rates_by_term : statement_rows (setting prices percentages 365 peak net) (ten_bought ∷ (ten_sold 1010000 9051 ∷ [])) ≡ row first (Trades AllTrades) 0 (pos 10000) ∷ []
   pub cents_rounded_apart : margin_answer (by net) cents_both_ways ≡ given 1 4
   pub surplus_stays_in_its_block : margin_answer (by net) (ten_bought ∷ (three_paid ∷ [])) ≡ given 10200 5
   pub surplus_stays_in_its_block_exactly : Equal (exact_margin (by net) (ten_bought ∷ (three_paid ∷ []))) (over (pos 10200) 1)
   pub both_sides_charged : margin_answer (by net) three_both_ways ≡ given 6000 4
-  pub sold_value : statement_rows (by net) (line 1 second Sold 3 300000 (Held 9000) ∷ []) ≡ row second held 0 1500 (pos 0) ∷ []
+  pub sold_value : statement_rows (by net) (line 1 second Sold 3 300000 (Held 9000) ∷ []) ≡ row second HeldLines 1500 (pos 0) ∷ []
   -- only trades need a rate, and cash-only lines need nothing
   pub rate_not_needed : margin_answer (setting prices percentages 0 flat net) three_both_ways ≡ given 6000 4
   pub nothing_needed : margin_answer (setting [] [] 0 flat net) cash_both_ways ≡ given 100 0
   pub cash_by_isin : margin_answer (by net) cash_both_ways ≡ given 100 0
   pub standing_lines : standing calls ≡ ten_bought ∷ (line 3 first Bought 0 100 (CashOnly 9000) ∷ [])
   pub standing_margin : margin_answer (by net) (standing calls) ≡ given 10300 3
+  -- 2,000,000 titles together pass, and one more is refused
+  pub most_titles_together : enter_answer 9000 9 (bought_today 1 1999999 ∷ []) (bought_today 2 1) ≡ accepted
+  pub too_many_titles_together : enter_answer 9000 9 (bought_today 1 1999999 ∷ []) (bought_today 2 2) ≡ refused 8 2
+  -- the answers above are the ones due, and so are the refusals of enter and withdraw in their order
+  pub calls_due : EachDue (by net) 9 [] calls
+  pub refusals_due : EachDue (by net) 2 [] refusals

@@ -1,6 +1,6 @@
 //! A trade as text: lines of a name and a value, parted by a semicolon, in any order.
 use crate::trade::Trade;
-use book::line::Side;
+use account::line::Side;
 use quantities::isin::Isin;
 use std::alloc::Global;
 use std::fmt;

@@ -1,5 +1,5 @@
 //! One trade by itself, as it is handed.
-use book::line::Side;
+use account::line::Side;
 use quantities::amount::{Cents, SignedCents};
 use quantities::date::Date;
 use quantities::isin::Isin;

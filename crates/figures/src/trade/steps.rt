@@ -3,7 +3,7 @@ ghost use Rattle.std.specs.Prelude.{◌≡◌, pos, negsuc, ◌≤ℤ◌};
 ghost use Rattle.figures.specs.Trades.{bought, sold, parts_variation, Checks, Answered};
 
 use super::{Parts, Trade, Valuation};
-use book::line::Side;
+use account::line::Side;
 use netting::NettingRule;
 use quantities::amount::{
     SignedCents, initial_margin, market_value, present_value_down, present_value_up,
