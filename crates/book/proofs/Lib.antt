@@ -1,3 +1,4 @@
+pub mod Chained
 pub mod Entering
 pub mod Withdrawing
 pub mod Taken

@@ -6,22 +6,23 @@ use Rattle.curve.specs.Curves.{Discounting}
 use Rattle.market.specs.declared.market.Market.{Market}
 use Rattle.account.specs.declared.line.Line.{Line}
 use Rattle.account.specs.declared.call.Call.{Call}
-use Rattle.account.specs.declared.call.Answer as made
 use Rattle.account.specs.Settings.{Setting}
-use Rattle.account.specs.Calls.{Answer, refused, given, Event, standing_from, standing, events}
+use Rattle.account.specs.Calls.{Answered, Answer, refused, given, Event, standing_from, standing, events}
 use Rattle.account.specs.Answers.{margin_answer, EachDue}
 use Rattle.account.specs.History.{Kept, room_in, WorkedThrough, JointKept}
 use Rattle.account.proofs.Answered.{joint_law}
 use Rattle.account.proofs.History.{history_law}
 use Rattle.valuation.specs.Setups.{setting_with}
 use Rattle.book.specs.declared.book.Book.{Book}
+use Rattle.book.specs.declared.work.Ledger.{Ledger}
+use Rattle.book.specs.Ledgers.{events_of, Works}
 use Rattle.book.specs.Books.{lines_of, room_for, setting_for, TakesAll}
 
-pub too_short : (s : Setting) (calls : List Call) (answers : List made.Answer) (places : List Line) → length answers < length calls → WorkedThrough s calls answers answers places places (refused 14 0)
+pub too_short : (s : Setting) (calls : List Call) (answers : List Answered) (places : List Line) → length answers < length calls → WorkedThrough s calls answers answers places places (refused 14 0)
 too_short s calls answers places l = record { too_few = λ k. (refl, refl, refl); kept = λ k. absurd (omega arith) }
 
 -- ---- a book without lines that takes the calls, and is then asked its margin
-module _ (reach : ℕ) (rate : ℕ → ℤ) (charged : ℕ → ℕ → ℕ) (m : Market) (book worked : Book) (calls : List Call) (before after : List made.Answer) (places places_after : List Line) (last : Answer) where
+module _ (reach : ℕ) (rate : ℕ → ℤ) (charged : ℕ → ℕ → ℕ) (m : Market) (book worked : Book) (calls : List Call) (before after : List Answered) (places places_after : List Line) (last : Answer) where
   pub worked_through : Netting charged → Discounting reach rate → length calls ≤ length before → lines_of book ≡ [] → room_for book ≡ room_in places → book.market.now ≡ m →
       TakesAll reach rate charged calls before book after worked → last ≡ margin_answer (setting_for reach rate charged worked) (lines_of worked) →
       WorkedThrough (setting_with reach rate charged m) calls before after places places_after last
@@ -36,13 +37,18 @@ module _ (reach : ℕ) (rate : ℕ → ℤ) (charged : ℕ → ℕ → ℕ) (m :
       record { too_few = λ k. absurd (omega arith); kept = λ k. (subst (Kept s (room_in places) es) (sym due) (history_law s (room_in places) es net rates each), t.kept) }
 
 -- ---- three lists of calls
-module _ {s : Setting} {calls : List Call} {before after : List made.Answer} {places places_after : List Line} {last : Answer} (w : WorkedThrough s calls before after places places_after last) where
+module _ {s : Setting} {calls : List Call} {before after : List Answered} {places places_after : List Line} {last : Answer} (w : WorkedThrough s calls before after places places_after last) where
   given_due : (m k : ℕ) → last ≡ given m k → margin_answer s (standing (events calls after)) ≡ given m k
   given_due m k e =
       ⊎_elim (λ l. let r = (w.too_few l).0 in let z : ◌≡◌ {A = ℕ} 0 1 = cc in absurd (omega arith)) (λ l. sym (w.kept l).0.last_due ∙ e) (cases_lt (length before) (length calls))
 
-pub joint_kept : {s : Setting} {ca cb cj : List Call} {pa pb pj a b j : List made.Answer} {la lb lj ma mb mj : List Line} {ta tb tj : Answer} → Netting s.charged →
+pub joint_kept : {s : Setting} {ca cb cj : List Call} {pa pb pj a b j : List Answered} {la lb lj ma mb mj : List Line} {ta tb tj : Answer} → Netting s.charged →
     WorkedThrough s ca pa a la ma ta → WorkedThrough s cb pb b lb mb tb → WorkedThrough s cj pj j lj mj tj → length cj ≤ length pj → JointKept (events ca a) (events cb b) (events cj j) ta tb tj
 joint_kept {s} net wa wb wj l na ka nb kb joint ea eb =
     let r = joint_law s _ _ _ na ka nb kb net joint (given_due wa na ka ea) (given_due wb nb kb eb) in
     (r.0, r.1, (wj.kept l).0.last_due ∙ r.2, r.3)
+
+-- the same of three ledgers, which keep their calls
+pub joint_works : {s : Setting} {la lb lj ma mb mj : Ledger} {ta tb tj : Answer} → Netting s.charged →
+    Works s la ma ta → Works s lb mb tb → Works s lj mj tj → length lj.calls.now ≤ length lj.answers.now → JointKept (events_of ma) (events_of mb) (events_of mj) ta tb tj
+joint_works net wa wb wj l = rw (wa.calls, wb.calls, wj.calls) (joint_kept net wa.worked wb.worked wj.worked l)

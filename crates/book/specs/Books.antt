@@ -7,9 +7,8 @@ use Rattle.register.specs.Keys.{found_by}
 use Rattle.account.specs.declared.line.Line.{Line}
 use Rattle.account.specs.declared.call.Call.{Call}
 use Rattle.account.specs.declared.call.Call.TheVariants.{Enter, Withdraw}
-use Rattle.account.specs.declared.call.Answer as made
 use Rattle.account.specs.Settings.{Setting}
-use Rattle.account.specs.Calls.{told_answer, told_enter, told_withdraw, line_rank, moved, standing_from, events}
+use Rattle.account.specs.Calls.{Answered, told_answer, told_enter, told_withdraw, line_rank, moved, standing_from, events}
 use Rattle.account.specs.Answers.{enter_answer, withdraw_answer, due, EachDue}
 use Rattle.valuation.specs.Setups.{setting_with}
 use Rattle.book.specs.declared.book.Book.{Book}
@@ -49,13 +48,13 @@ abbrev pub setting_for : ℕ → (ℕ → ℤ) → (ℕ → ℕ → ℕ) → Boo
 setting_for reach rate charged b = setting_with reach rate charged b.market.now
 
 -- a call is taken: the answer is the one due, and what it leaves stands
-pub record Takes (reach : ℕ) (rate : ℕ → ℤ) (charged : ℕ → ℕ → ℕ) (call : Call) (before : Book) (answer : made.Answer) (after : Book) : Type 0 where
+pub record Takes (reach : ℕ) (rate : ℕ → ℤ) (charged : ℕ → ℕ → ℕ) (call : Call) (before : Book) (answer : Answered) (after : Book) : Type 0 where
   pub answers : told_answer answer ≡ due (setting_for reach rate charged before) (room_for before) (lines_of before) call
   pub leaves : lines_of after ≡ moved call (told_answer answer) (lines_of before)
   pub frame : SameFrame before after
 
 -- calls are taken one after another, and their answers written in order; places after them keep what they held
-pub record TakesAll (reach : ℕ) (rate : ℕ → ℤ) (charged : ℕ → ℕ → ℕ) (calls : List Call) (places : List made.Answer) (before : Book) (answers : List made.Answer) (after : Book) : Type 0 where
+pub record TakesAll (reach : ℕ) (rate : ℕ → ℤ) (charged : ℕ → ℕ → ℕ) (calls : List Call) (places : List Answered) (before : Book) (answers : List Answered) (after : Book) : Type 0 where
   pub each : EachDue (setting_for reach rate charged before) (room_for before) (lines_of before) (events calls answers)
   pub leaves : lines_of after ≡ standing_from (lines_of before) (events calls answers)
   pub kept : drop (length calls) answers ≡ drop (length calls) places

@@ -1,2 +1,4 @@
 pub mod Checks
 pub mod Books
+pub mod Terms
+pub mod Ledgers

@@ -1,7 +1,7 @@
 //! A book at its edges.
 use crate::book::Book;
-use crate::work::{Ledger, work_calls};
-use account::call::{Answer, Call, LineRefusal, Margin};
+use crate::work::{Ledger, Terms, work_calls};
+use account::call::{Answer, Call, LineRefusal, Margin, Reply};
 use account::line::{Block, Line, Side};
 use account::row::{Row, Scope};
 use curve::point::Point;
@@ -74,7 +74,7 @@ fn lines_are_refused_in_order(rt: HostRuntime) -> Result<(), Fail> {
     let mut prices = [Price::blank(); 1];
     let mut percentages = [Percentage::blank(); 6];
     let market = Market::new(today()?, &mut prices, &mut percentages);
-    let mut places = [Line::blank(); 2];
+    let mut places = [Line::default(); 2];
     let mut book = Book::new(&market, &mut places);
     let trade = Block::Trade(9_000);
     assert_eq!(rt; refused(book.enter(bought(0, LONG_BOND, 1, 1, trade))), 4);
@@ -107,7 +107,7 @@ fn a_margin_with_its_rows(rt: HostRuntime) -> Result<(), Fail> {
     let mut points = Points::new(&mut point);
     assert_eq!(rt; points.add(364, 360), Ok(()));
     let curve = StepCurve { points: &points };
-    let mut places = [Line::blank(); 4];
+    let mut places = [Line::default(); 4];
     let mut book = Book::new(&market, &mut places);
     assert_eq!(rt; told(book.margin(&curve, &Net)), (0, 0));
     let failed = bought(3, SHORT_BOND, 3, 300_000, Block::Failed(8_998));
@@ -154,24 +154,30 @@ fn too_few_places_for_answers_and_no_price(rt: HostRuntime) -> Result<(), Fail> 
     let mut point = [Point::new(0, Rate { basis_points: 0 }); 1];
     let points = Points::new(&mut point);
     let curve = StepCurve { points: &points };
+    let terms = Terms {
+        market: &market,
+        curve: &curve,
+        rule: &Net,
+    };
     let calls = [
         Call::Enter(bought(5, LONG_BOND, 1, 1, Block::Trade(9_000))),
         Call::AskMargin,
     ];
-    let mut one = [Answer::Accepted; 1];
-    let mut two = [Answer::Accepted; 2];
-    let mut places = [Line::blank(); 1];
-    let short = Ledger {
+    let accepted: Answer = Ok(Reply::Accepted);
+    let mut one = [accepted; 1];
+    let mut two = [accepted; 2];
+    let mut places = [Line::default(); 1];
+    let mut short = Ledger {
         calls: &calls,
         answers: &mut one,
         places: &mut places,
     };
-    assert_eq!(rt; told(work_calls(&market, &curve, &Net, short)), (14, 0));
-    let long = Ledger {
+    assert_eq!(rt; told(work_calls(&terms, &mut short)), (14, 0));
+    let mut long = Ledger {
         calls: &calls,
         answers: &mut two,
         places: &mut places,
     };
-    assert_eq!(rt; told(work_calls(&market, &curve, &Net, long)), (10, 5));
+    assert_eq!(rt; told(work_calls(&terms, &mut long)), (10, 5));
     Ok(())
 }

@@ -7,7 +7,7 @@ ghost use Rattle.book.specs.Checks.{Admits};
 
 use super::Book;
 use crate::check::{check_date, check_form, check_titles};
-use account::call::{Answer, Call, LineRefusal, Margin};
+use account::call::{Answer, Call, LineRefusal, Margin, Reply};
 use account::line::Line;
 use account::row::Row;
 use curve::Curve;
@@ -106,21 +106,15 @@ impl<'m, 'p, 'l> Book<'m, 'p, 'l> {
         ensures { Takes (C.Curve.reach curve.now) (C.Curve.rate curve.now) (N.NettingRule.charged rule.now) call self.old result self.new }
     {
         match call {
-            Call::Enter(line) => match self.enter(line) {
-                Ok(()) => Answer::Accepted,
-                Err(refusal) => Answer::Refused(LineRefusal {
-                    refusal,
-                    reference: line.reference,
-                }),
-            },
-            Call::Withdraw(reference) => match self.withdraw(reference) {
-                Ok(_) => Answer::Accepted,
-                Err(refusal) => Answer::Refused(LineRefusal { refusal, reference }),
-            },
-            Call::AskMargin => match self.margin(curve, rule) {
-                Ok(margin) => Answer::Given(margin),
-                Err(refusal) => Answer::Refused(refusal),
-            },
+            Call::Enter(line) => self
+                .enter(line)
+                .map(|()| Reply::Accepted)
+                .map_err(|refusal| LineRefusal::of_line(line.reference, refusal)),
+            Call::Withdraw(reference) => self
+                .withdraw(reference)
+                .map(|_line| Reply::Accepted)
+                .map_err(|refusal| LineRefusal::of_line(reference, refusal)),
+            Call::AskMargin => self.margin(curve, rule).map(Reply::Given),
         }
     }
 
@@ -135,9 +129,9 @@ impl<'m, 'p, 'l> Book<'m, 'p, 'l> {
         requires { length calls.now ≤ length answers.old }
         ensures { TakesAll (C.Curve.reach curve.now) (C.Curve.rate curve.now) (N.NettingRule.charged rule.now) calls.now answers.old self.old answers.new self.new }
     {
-        for i in 0..calls.len() {
-            let answer = self.take(curve, rule, calls[i]);
-            answers[i] = answer;
+        // Over answers.iter_mut() the proof knows their count, and not what is written in them.
+        for (i, call) in calls.iter().enumerate() {
+            answers[i] = self.take(curve, rule, *call);
         }
     }
 }

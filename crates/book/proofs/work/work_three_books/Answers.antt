@@ -1,9 +1,5 @@
-use Rattle.book.proofs.Promise.{joint_kept}
+use Rattle.book.proofs.Promise.{joint_works}
 use Rattle.book.proofs.work.work_three_books.Goals as goal
 
-pub returns : goal.returns
-returns g c =
-    let first = c.work_through-first.ensures in
-    let second = c.work_through-second.ensures in
-    let third = c.work_through-third.ensures in
-    record { first = first; second = second; third = third; joint = joint_kept (g.met.N.NettingRule.nets c.args.rule.now) first second third }
+pub returns-clause-joint : goal.returns-clause-joint
+returns-clause-joint g c = joint_works (g.met.N.NettingRule.nets c.args.terms.now.rule.now) c.work_through.ensures c.work_through-2.ensures c.work_through-3.ensures

@@ -33,7 +33,10 @@ pub check_titles-requires : goal.check_titles-requires
 check_titles-requires c =
     let b = c.args.self.now in
     let l = c.args.line.now in
-    (subst (λ (ls : List Line). titles_of l.isin (kind l.block) ls ≤ most_titles) (sym c.records.ensures) (b.titles l.isin (kind l.block)), formed_titles l c.in_ok-check_form.ensures)
+    record {
+      standing = subst (λ (ls : List Line). titles_of l.isin (kind l.block) ls ≤ most_titles) (sym c.records.ensures) (b.titles l.isin (kind l.block));
+      own = formed_titles l c.in_ok-check_form.ensures;
+    }
 
 pub returns : goal.returns
 returns c =

@@ -5,7 +5,7 @@ use Rattle.book.proofs.book.Book.take_all.Goals as goal
 pub loop-i-preserved : goal.loop-i-preserved
 loop-i-preserved g c =
     let long : length c.args.calls.now ≤ length c.loop-i.answers = omega arith in
-    taken_more c.loop-i.invariant.0 c.loop-i.invariant.1 _ c.take-answer.result c.take-answer.ensures c.loop-i-test.true long
+    taken_more c.loop-i.invariant.0 c.loop-i.invariant.1 _ c.take.result c.take.ensures c.loop-i-test.true long
 
 pub returns : goal.returns
 returns g c =
