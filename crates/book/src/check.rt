@@ -7,8 +7,8 @@ ghost use Rattle.account.specs.Answers.{has_titles, well_formed, well_dated, tit
 ghost use Rattle.book.specs.Checks.{Checks};
 
 use account::line::{Block, Line};
-use quantities::isin::Isin;
 use quantities::date::{Date, past_date, settlement_date};
+use quantities::isin::Isin;
 use quantities::range::{Cash, Titles};
 use quantities::refusal::Refusal;
 use valuation::block::{BlockKind, is_of};
