@@ -45,7 +45,7 @@ impl<'m, 'p, 'l> Book<'m, 'p, 'l> {
             return Err(Refusal::KeyPresent);
         }
         check_date(self.market.today(), line.block)?;
-        check_titles(self.lines.records(), line)
+        check_titles(self.lines(), line)
     }
 
     /// Enters a line: refused 4 for its form, 6 for its reference, 7 for its date, 8 for its titles, 9 for want of a place.
@@ -66,6 +66,21 @@ impl<'m, 'p, 'l> Book<'m, 'p, 'l> {
         self.lines.remove(reference)
     }
 
+    // The lines that stand, with what their margin is worked on.
+    fn portfolio<'s, C, N>(&'s self, curve: &'s C, rule: &'s N) -> Portfolio<'s, 'p, C, N>
+        ensures market { result.market.now ≡ self.now.market.now }
+        ensures curve { result.curve.now ≡ curve.now }
+        ensures rule { result.rule.now ≡ rule.now }
+        ensures lines { result.lines.now ≡ lines_of self.now }
+    {
+        Portfolio {
+            market: &*self.market,
+            curve,
+            rule,
+            lines: self.lines(),
+        }
+    }
+
     /// The margin of the lines that stand, by a curve and a netting rule.
     pub fn margin<'s, C: Curve, N: NettingRule>(
         &'s self,
@@ -74,13 +89,7 @@ impl<'m, 'p, 'l> Book<'m, 'p, 'l> {
     ) -> Result<Margin, LineRefusal>
         ensures { told_margin result ≡ margin_answer (setting_for (C.Curve.reach curve.now) (C.Curve.rate curve.now) (N.NettingRule.charged rule.now) self.now) (lines_of self.now) }
     {
-        let portfolio = Portfolio {
-            market: &*self.market,
-            curve,
-            rule,
-            lines: self.lines.records(),
-        };
-        portfolio.margin()
+        self.portfolio(curve, rule).margin()
     }
 
     /// The margin with the rows of its statement, by ISIN, then trades, failed, held and cash-only; they are written as far as there are places.
@@ -92,13 +101,7 @@ impl<'m, 'p, 'l> Book<'m, 'p, 'l> {
     ) -> Result<Statement, LineRefusal>
         ensures { States (setting_for (C.Curve.reach curve.now) (C.Curve.rate curve.now) (N.NettingRule.charged rule.now) self.now) (lines_of self.now) rows.old rows.new result }
     {
-        let portfolio = Portfolio {
-            market: &*self.market,
-            curve,
-            rule,
-            lines: self.lines.records(),
-        };
-        portfolio.statement(rows)
+        self.portfolio(curve, rule).statement(rows)
     }
 
     /// Does what a call asks.
