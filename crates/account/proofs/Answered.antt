@@ -1,5 +1,5 @@
 -- A margin is given where no line standing has a fault. So the two bounds hold for what is answered.
-use Rattle.std.proofs.Common.{◌≡◌, ℕ, ◌+◌, Bool, true, false, cond, not, ◌&&◌, eqb, List, [], ◌∷◌, sym, refl, ◌∙◌, subst₂, arith}
+use Rattle.std.proofs.Common.{◌≡◌, ℕ, ◌+◌, Bool, true, false, cond, not, ◌&&◌, eqb, List, [], ◌∷◌, sym, refl, ◌∙◌, subst, subst₂, arith}
 use Rattle.std.proofs.lemmas.Bool.{ltb-true, eqb-true, eq-eqb, cond-true}
 use Rattle.account.specs.declared.line.Line.{Line}
 use Rattle.account.specs.Lines.{Kind, trade, failed, held, cash_only, kind, same_kind, sum_of}
@@ -8,7 +8,7 @@ use Rattle.account.specs.Margin.{margin, rounded_amounts}
 use Rattle.account.specs.Exact.{exact_margin}
 use Rattle.account.specs.Calls.{Answer, accepted, refused, given}
 use Rattle.account.specs.Answers.{fault, answer_among}
-use Rattle.account.specs.Joint.{Reached, WithinCents, MarginHolds, JointLaw, CentsLaw}
+use Rattle.account.specs.Joint.{Reached, WithinCents, MarginHolds, JointLaw, CentsLaw, GivenLaw}
 use Rattle.account.proofs.Terms.{joint_adds, adds_ℕ}
 use Rattle.account.proofs.Joint.{joint_bound}
 use Rattle.account.proofs.Cents.{cents_bound}
@@ -66,3 +66,7 @@ cents_law s ls net r y = go (answer_among s ls ls) refl
     go (given m k) e =
         let p = parts s ls m k e in
         (p.0, p.1, subst₂ (WithinCents (exact_margin s ls)) (sym p.0) (sym p.1) (cents_bound s ls net r (reached s ls (faultless s ls ls m k e)) y))
+
+-- a margin that is given is the answer, so it keeps to what the answer does
+pub given_law : GivenLaw
+given_law s ls m k net r y e = subst (MarginHolds s ls) e (cents_law s ls net r y)

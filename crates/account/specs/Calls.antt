@@ -8,8 +8,8 @@ use Rattle.account.specs.declared.call.Call.{Call}
 use Rattle.account.specs.declared.call.Call.TheVariants.{Enter, Withdraw, AskMargin}
 use Rattle.account.specs.declared.call.Margin.{Margin}
 use Rattle.account.specs.declared.call.LineRefusal.{LineRefusal}
-use Rattle.account.specs.declared.call.Answer as made
-use Rattle.account.specs.declared.call.Answer.TheVariants.{Accepted, Refused, Given}
+use Rattle.account.specs.declared.call.Reply.{Reply}
+use Rattle.account.specs.declared.call.Reply.TheVariants.{Accepted, Given}
 
 -- what a book answers
 pub data Answer : Type 0 where
@@ -19,11 +19,15 @@ pub data Answer : Type 0 where
   -- the margin and its count of rounded amounts
   given : ℕ → ℕ → Answer
 
+-- what the code answers
+abbrev pub Answered : Type 0
+Answered = Result Reply LineRefusal
+
 -- an answer as its reader tells it
-abbrev pub told_answer : made.Answer → Answer
-told_answer Accepted = accepted
-told_answer (Refused r) = refused (number r.refusal) r.reference
-told_answer (Given m) = given m.cents m.rounded_amounts
+abbrev pub told_answer : Answered → Answer
+told_answer (Ok Accepted) = accepted
+told_answer (Ok (Given m)) = given m.cents m.rounded_amounts
+told_answer (Err r) = refused (number r.refusal) r.reference
 
 -- what entering a line came to, as an answer
 abbrev pub told_enter : Line → Result (Unit {0}) Refusal → Answer
@@ -70,7 +74,7 @@ abbrev pub standing : List Event → List Line
 standing es = standing_from [] es
 
 -- calls beside the answers that were written for them
-abbrev pub events : List Call → List made.Answer → List Event
+abbrev pub events : List Call → List Answered → List Event
 events [] answers = []
 events (c ∷ cs) [] = []
 events (c ∷ cs) (a ∷ answers) = (c, told_answer a) ∷ events cs answers

@@ -6,9 +6,8 @@ use Rattle.netting.specs.Rules.{Netting}
 use Rattle.curve.specs.Curves.{Discounting}
 use Rattle.account.specs.declared.line.Line.{Line}
 use Rattle.account.specs.declared.call.Call.{Call}
-use Rattle.account.specs.declared.call.Answer as made
 use Rattle.account.specs.Settings.{Setting}
-use Rattle.account.specs.Calls.{Answer, refused, given, Event, moved, standing, events}
+use Rattle.account.specs.Calls.{Answer, Answered, refused, given, Event, moved, standing, events}
 use Rattle.account.specs.Answers.{margin_answer, EachDue}
 use Rattle.account.specs.Joint.{Joint, MarginHolds}
 
@@ -38,7 +37,7 @@ abbrev pub room_in : List Line → ℕ
 room_in places = min (length places) 65535
 
 -- a list of calls, worked through over places for its answers and for the lines of a book, and the margin asked after them
-pub record WorkedThrough (s : Setting) (calls : List Call) (answers answers_after : List made.Answer) (places places_after : List Line) (last : Answer) : Type 0 where
+pub record WorkedThrough (s : Setting) (calls : List Call) (answers answers_after : List Answered) (places places_after : List Line) (last : Answer) : Type 0 where
   -- fewer places for answers than calls are refused, with nothing done
   pub too_few : length answers < length calls → (last ≡ refused (number TooLong) 0) × (answers_after ≡ answers) × (places_after ≡ places)
   -- else every call is answered in its place, and the places after them keep what they held

@@ -66,3 +66,10 @@ abbrev pub CentsLaw : Type 0
 CentsLaw =
     (s : Setting) (ls : List Line) → Netting s.charged → Discounting s.reach s.rate → WithinYear s ls →
     MarginHolds s ls (margin_answer s ls)
+
+-- the same of a margin that is given: it is that of the lines, never below their exact margin, and above it by at most one cent for each rounded amount
+abbrev pub GivenLaw : Type 0
+GivenLaw =
+    (s : Setting) (ls : List Line) (m k : ℕ) → Netting s.charged → Discounting s.reach s.rate → WithinYear s ls →
+    margin_answer s ls ≡ given m k →
+    (m ≡ margin s ls) × (k ≡ rounded_amounts ls) × WithinCents (exact_margin s ls) m k

@@ -1,17 +1,19 @@
 //! The lines of an account.
+ghost use Rattle.std.specs.Prelude.{◌≡◌};
+
 use quantities::date::Date;
 use quantities::isin::Isin;
 use register::record::Record;
 
 /// Which way the titles of a line go; a cash-only line that is bought pays, one that is sold receives.
-#[derive(Clone, Copy, PartialEq, Eq)]
+#[derive(Clone, Copy, PartialEq, Eq, Debug)]
 pub enum Side {
     Bought,
     Sold,
 }
 
 /// Where a line stands, with its date: for a trade the day on which it settles.
-#[derive(Clone, Copy, PartialEq, Eq)]
+#[derive(Clone, Copy, PartialEq, Eq, Debug)]
 pub enum Block {
     Trade(Date),
     Failed(Date),
@@ -20,7 +22,7 @@ pub enum Block {
 }
 
 /// A line as it is handed.
-#[derive(Clone, Copy, PartialEq, Eq)]
+#[derive(Clone, Copy, PartialEq, Eq, Debug)]
 pub struct Line {
     pub reference: u32,
     pub isin: Isin,
@@ -41,9 +43,11 @@ impl Record for Line {
     }
 }
 
-impl Line {
-    /// What a free place for a line may hold.
-    pub fn blank() -> Line {
+/// What a free place for a line may hold: a reference under which no line stands.
+impl Default for Line {
+    ghost is_default = { λ l. l.reference ≡ 0 };
+
+    fn default() -> Line {
         Line {
             reference: 0,
             isin: Isin { bytes: [0; 12] },

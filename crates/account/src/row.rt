@@ -3,7 +3,7 @@ use quantities::amount::{Cents, SignedCents};
 use quantities::isin::Isin;
 
 /// Which trades settle: all, those not dated today, or those dated after the next business day.
-#[derive(Clone, Copy)]
+#[derive(Clone, Copy, PartialEq, Eq, Debug)]
 pub enum Scenario {
     AllTrades = 1,
     WithoutToday = 2,
@@ -11,7 +11,7 @@ pub enum Scenario {
 }
 
 /// The lines of an ISIN that a row is worked on.
-#[derive(Clone, Copy)]
+#[derive(Clone, Copy, PartialEq, Eq, Debug)]
 pub enum Scope {
     Trades(Scenario),
     FailedLines,
@@ -20,7 +20,7 @@ pub enum Scope {
 }
 
 /// What the lines of an ISIN and block are charged: initial margin less variation margin.
-#[derive(Clone, Copy)]
+#[derive(Clone, Copy, PartialEq, Eq, Debug)]
 pub struct Row {
     pub isin: Isin,
     pub scope: Scope,

@@ -1,9 +1,6 @@
-pub mod Sums
-pub mod Terms
-pub mod Isins
-pub mod Ordered
-pub mod Blocks
-pub mod Joint
-pub mod Near
-pub mod Cents
-pub mod Answered
+pub mod Chained
+pub mod Entering
+pub mod Withdrawing
+pub mod Taken
+pub mod Working
+pub mod Promise

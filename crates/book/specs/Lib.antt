@@ -1,8 +1,4 @@
-pub mod Lines
-pub mod Settings
-pub mod Charges
-pub mod Rows
-pub mod Margin
-pub mod Exact
-pub mod Calls
-pub mod Joint
+pub mod Checks
+pub mod Books
+pub mod Terms
+pub mod Ledgers

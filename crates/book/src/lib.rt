@@ -1,7 +1,8 @@
-//! Lines, and what they are margined on.
+//! The book: lines are entered and withdrawn, and its margin is asked.
 #![tactic(auto)]
 
-pub mod day;
-pub mod laws;
-pub mod line;
-pub mod market;
+pub mod book;
+mod check;
+#[cfg(test)]
+mod tests;
+pub mod work;

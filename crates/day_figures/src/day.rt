@@ -1,11 +1,10 @@
 //! A day of two accounts: each is worked call by call, then both are put together.
-use crate::report::{show_call, show_margin};
-use account::call::{Answer, Call};
+use account::call::{Answer, Call, LineRefusal, Margin, Reply};
 use account::line::{Block, Line, Side};
+use book::work::{Ledger, Terms, work_three_books};
 use curve::point::Point;
 use curve::point::points::Points;
 use curve::step::StepCurve;
-use dealing::work::{Ledger, work_three_books};
 use market::day::Day;
 use market::market::Market;
 use market::price::{Percentage, Price};
@@ -13,6 +12,7 @@ use netting::Net;
 use quantities::date::Date;
 use quantities::isin::Isin;
 use quantities::range::Rate;
+use specimen::report::show_refusal;
 use std::io;
 
 const TODAY: Date = 9_000;
@@ -84,6 +84,30 @@ fn joint_calls() -> [Call; 6] {
     ]
 }
 
+// A call with its answer, on a line of its own.
+fn show_call(rt: &impl Print, call: Call, answer: Answer) -> io::Result<()> {
+    match answer {
+        Ok(reply) => println!(rt; "  {call}{reply}"),
+        Err(refused) => println!(rt; "  {call}{refused}"),
+    }
+}
+
+// A margin, with the bounds in which the exact margin lies: one cent for each rounded amount below it.
+fn show_margin(rt: &impl Print, name: &str, margin: Result<Margin, LineRefusal>) -> io::Result<()> {
+    match margin {
+        Ok(
+            Margin {
+                cents,
+                rounded_amounts,
+            },
+        ) => {
+            let lowest = cents.saturating_sub(u64::from(rounded_amounts));
+            println!(rt; "  {name:<20}{cents:>12}   exact margin from {lowest} to {cents}")
+        }
+        Err(refused) => show_refusal(rt, name, refused.refusal),
+    }
+}
+
 fn show_calls(rt: &impl Print, calls: &[Call], answers: &[Answer]) -> io::Result<()> {
     for (call, answer) in calls.iter().zip(answers.iter()) {
         show_call(rt, *call, *answer)?;
@@ -96,27 +120,31 @@ fn work_on(rt: &impl Print, market: &Market<'_>, points: &Points<'_>) -> io::Res
     let first = first_calls();
     let second = second_calls();
     let joint = joint_calls();
-    let mut first_answers = [Answer::Accepted; 7];
-    let mut second_answers = [Answer::Accepted; 6];
-    let mut joint_answers = [Answer::Accepted; 6];
-    let mut first_places = [Line::blank(); 8];
-    let mut second_places = [Line::blank(); 8];
-    let mut joint_places = [Line::blank(); 8];
-    let margins = work_three_books(
+    let accepted: Answer = Ok(Reply::Accepted);
+    let mut first_answers = [accepted; 7];
+    let mut second_answers = [accepted; 6];
+    let mut joint_answers = [accepted; 6];
+    let mut first_places = [Line::default(); 8];
+    let mut second_places = [Line::default(); 8];
+    let mut joint_places = [Line::default(); 8];
+    let terms = Terms {
         market,
-        &curve,
-        &Net,
-        Ledger {
+        curve: &curve,
+        rule: &Net,
+    };
+    let margins = work_three_books(
+        &terms,
+        &mut Ledger {
             calls: &first,
             answers: &mut first_answers,
             places: &mut first_places,
         },
-        Ledger {
+        &mut Ledger {
             calls: &second,
             answers: &mut second_answers,
             places: &mut second_places,
         },
-        Ledger {
+        &mut Ledger {
             calls: &joint,
             answers: &mut joint_answers,
             places: &mut joint_places,

@@ -1,0 +1,21 @@
+use Rattle.account.proofs.Answered.{joint_law, cents_law, given_law}
+use Rattle.account.proofs.Blocks.{worst_law, no_lines_law}
+use Rattle.account.proofs.Cents.{cents_bound}
+use Rattle.account.proofs.History.{history_law}
+use Rattle.account.proofs.Joint.{joint_bound}
+use Rattle.account.proofs.Ordered.{isins_law}
+use Rattle.account.proofs.laws.laws_stand.Goals as goal
+
+pub returns : goal.returns
+returns c =
+    record {
+      isins_law = isins_law;
+      worst_law = worst_law;
+      no_lines_law = no_lines_law;
+      joint_bound = joint_bound;
+      cents_bound = cents_bound;
+      joint_law = joint_law;
+      cents_law = cents_law;
+      given_law = given_law;
+      history_law = history_law;
+    }

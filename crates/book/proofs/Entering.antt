@@ -1,0 +1,80 @@
+-- The checks of a line, and the answer that each leads to.
+use Rattle.std.proofs.Common.{◌≡◌, ℕ, ◌<◌, Bool, true, false, cond, not, eqb, ltb, leb, List, [], ◌∷◌, length, is_some, Some, None, Ok, Err, Option, Result, sym, refl, ap, ◌∙◌, Bor}
+use Rattle.std.specs.Option.{option_map}
+use Rattle.std.proofs.lemmas.Bool.{cond-true, cond-false, not_from_true, not_from_false, lt-ltb, le-ltb, leb-true, leb-false}
+use Rattle.quantities.specs.declared.refusal.Refusal.{Refusal}
+use Rattle.quantities.specs.declared.refusal.Refusal.TheVariants.{Full}
+use Rattle.quantities.specs.Ranges.{most_titles}
+use Rattle.register.specs.Changes.{Inserts}
+use Rattle.register.specs.Keys.{has_rank, found_by, inserted_by}
+use Rattle.account.specs.declared.line.Line.{Line}
+use Rattle.account.specs.declared.call.Call.TheVariants.{Enter}
+use Rattle.account.specs.Calls.{accepted, refused, told_enter, line_rank, moved}
+use Rattle.account.specs.Answers.{well_formed, well_dated, titles_with, enter_answer}
+use Rattle.book.specs.Checks.{Checks, Admitted, Admits}
+
+-- ---- a search tells whether a reference stands
+pub found_is : (f : Line → ℕ) (k : ℕ) (ls : List Line) → is_some (found_by f k ls) ≡ has_rank f k ls
+found_is f k [] = refl
+found_is f k (l ∷ ls) = go (eqb (f l) k) (found_is f k ls)
+  where
+    go : (b : Bool) → is_some (found_by f k ls) ≡ has_rank f k ls → is_some (cond b (Some l) (found_by f k ls)) ≡ cond b true (has_rank f k ls)
+    go true e = refl
+    go false e = e
+
+pub found_tells : (k : ℕ) (ls : List Line) (o : Option (Bor Line)) → option_map (λ x. x.now) o ≡ found_by line_rank k ls → is_some o ≡ has_rank line_rank k ls
+found_tells k ls o e = go o ∙ ap is_some e ∙ found_is line_rank k ls
+  where
+    go : (o : Option (Bor Line)) → is_some o ≡ is_some (option_map (λ x. x.now) o)
+    go None = refl
+    go (Some x) = refl
+
+-- ---- the answer, check by check
+module _ (today room : ℕ) (ls : List Line) (l : Line) where
+  pub ill_formed : well_formed l ≡ false → refused 4 l.reference ≡ enter_answer today room ls l
+  ill_formed f = sym (cond-true (not (well_formed l)) _ _ (not_from_false (well_formed l) f))
+
+  pub present : well_formed l ≡ true → has_rank line_rank l.reference ls ≡ true → refused 6 l.reference ≡ enter_answer today room ls l
+  present f h = sym (cond-false (not (well_formed l)) _ _ (not_from_true (well_formed l) f) ∙ cond-true (has_rank line_rank l.reference ls) _ _ h)
+
+  pub ill_dated : well_formed l ≡ true → has_rank line_rank l.reference ls ≡ false → well_dated today l.block ≡ false → refused 7 l.reference ≡ enter_answer today room ls l
+  ill_dated f h d =
+      sym (cond-false (not (well_formed l)) _ _ (not_from_true (well_formed l) f) ∙ cond-false (has_rank line_rank l.reference ls) _ _ h
+      ∙ cond-true (not (well_dated today l.block)) _ _ (not_from_false (well_dated today l.block) d))
+
+  pub too_many : well_formed l ≡ true → has_rank line_rank l.reference ls ≡ false → well_dated today l.block ≡ true → most_titles < titles_with l ls → refused 8 l.reference ≡ enter_answer today room ls l
+  too_many f h d t =
+      sym (cond-false (not (well_formed l)) _ _ (not_from_true (well_formed l) f) ∙ cond-false (has_rank line_rank l.reference ls) _ _ h
+      ∙ cond-false (not (well_dated today l.block)) _ _ (not_from_true (well_dated today l.block) d)
+      ∙ cond-true (ltb most_titles (titles_with l ls)) _ _ (lt-ltb most_titles (titles_with l ls) t))
+
+  -- a line that is admitted only wants a place
+  pub admitted : Admitted today ls l → enter_answer today room ls l ≡ cond (ltb (length ls) room) accepted (refused 9 l.reference)
+  admitted a =
+      cond-false (not (well_formed l)) _ _ (not_from_true (well_formed l) a.formed) ∙ cond-false (has_rank line_rank l.reference ls) _ _ a.new
+      ∙ cond-false (not (well_dated today l.block)) _ _ (not_from_true (well_dated today l.block) a.dated)
+      ∙ cond-false (ltb most_titles (titles_with l ls)) _ _ (le-ltb most_titles (titles_with l ls) a.titles)
+
+-- ---- the check of titles comes last
+module _ (today : ℕ) (ls : List Line) (l : Line) (formed : well_formed l ≡ true) (new : has_rank line_rank l.reference ls ≡ false) (dated : well_dated today l.block ≡ true) where
+  pub titles_checked : (r : Result (Unit {0}) Refusal) → Checks 8 (leb (titles_with l ls) most_titles) r → Admits today ls l r
+  titles_checked (Ok x) h = record { formed = formed; new = new; dated = dated; titles = leb-true (titles_with l ls) most_titles h }
+  titles_checked (Err e) h = λ room. ap (λ n. refused n l.reference) h.1 ∙ too_many today room ls l formed new dated (leb-false (titles_with l ls) most_titles h.0)
+
+-- ---- a line that is admitted stands, if there is a place
+module _ (today room : ℕ) (l : Line) (ls after : List Line) (answer : Result (Unit {0}) Refusal) (a : Admitted today ls l) (i : Inserts line_rank room l ls answer after) where
+  entered : (told_enter l answer ≡ enter_answer today room ls l) × (after ≡ moved (Enter l) (told_enter l answer) ls)
+  entered =
+      let e = go (ltb (length ls) room) (i.answers ∙ cond-false (has_rank line_rank l.reference ls) _ _ a.new) (i.leaves ∙ cond-false (has_rank line_rank l.reference ls) _ _ a.new) in
+      (e.0 ∙ sym (admitted today room ls l a), e.1)
+    where
+      go : (t : Bool) → answer ≡ cond t (Ok tt) (Err Full) → after ≡ cond t (inserted_by line_rank l ls) ls →
+          (told_enter l answer ≡ cond t accepted (refused 9 l.reference)) × (after ≡ moved (Enter l) (told_enter l answer) ls)
+      go true e z = (ap (told_enter l) e, z ∙ sym (ap (λ r. moved (Enter l) (told_enter l r) ls) e))
+      go false e z = (ap (told_enter l) e, z ∙ sym (ap (λ r. moved (Enter l) (told_enter l r) ls) e))
+
+  pub enter_answers : told_enter l answer ≡ enter_answer today room ls l
+  enter_answers = entered.0
+
+  pub enter_leaves : after ≡ moved (Enter l) (told_enter l answer) ls
+  enter_leaves = entered.1

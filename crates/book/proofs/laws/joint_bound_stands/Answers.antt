@@ -1,5 +1,0 @@
-use Rattle.book.proofs.laws.joint_bound_stands.Goals as goal
-use Rattle.book.proofs.Joint.{joint_bound}
-
-pub returns : goal.returns
-returns c = joint_bound

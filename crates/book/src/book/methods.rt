@@ -1,0 +1,140 @@
+ghost use Rattle.std.specs.Prelude.{◌≡◌, ◌≤◌, min, [], length};
+ghost use Rattle.book.specs.Books.{lines_of, room_for, today_of, setting_for, Enters, Withdraws, Takes, TakesAll};
+ghost use Rattle.account.specs.Calls.{told_margin};
+ghost use Rattle.valuation.specs.Statements.{States};
+ghost use Rattle.account.specs.Answers.{margin_answer};
+ghost use Rattle.book.specs.Checks.{Admits};
+
+use super::Book;
+use crate::check::{check_date, check_form, check_titles};
+use account::call::{Answer, Call, LineRefusal, Margin, Reply};
+use account::line::Line;
+use account::row::Row;
+use curve::Curve;
+use market::market::Market;
+use netting::NettingRule;
+use quantities::refusal::Refusal;
+use register::register::Register;
+use valuation::margin::Statement;
+use valuation::portfolio::Portfolio;
+
+impl<'m, 'p, 'l> Book<'m, 'p, 'l> {
+    /// A book in which no line stands, over a market and memory for lines.
+    pub fn new(market: &'m Market<'p>, places: &'l mut [Line]) -> Self
+        ensures empty { lines_of result ≡ [] }
+        ensures room { room_for result ≡ min (length places.old) 65535 }
+        ensures market { result.market.now ≡ market.now }
+    {
+        let lines = Register::new(places);
+        Book { market, lines }
+    }
+
+    /// The lines that stand, by reference.
+    pub fn lines(&self) -> &[Line]
+        ensures { result.now ≡ lines_of self.now }
+    {
+        self.lines.records()
+    }
+
+    // The checks of a line, in their order, before a place is sought for it.
+    fn admit(&self, line: &Line) -> Result<(), Refusal>
+        ensures { Admits (today_of self.now) (lines_of self.now) line.now result }
+    {
+        check_form(line)?;
+        if self.lines.find(line.reference).is_some() {
+            return Err(Refusal::KeyPresent);
+        }
+        check_date(self.market.today(), line.block)?;
+        check_titles(self.lines(), line)
+    }
+
+    /// Enters a line: refused 4 for its form, 6 for its reference, 7 for its date, 8 for its titles, 9 for want of a place.
+    pub fn enter(&mut self, line: Line) -> Result<(), Refusal>
+        ensures { Enters line self.old result self.new }
+    {
+        self.admit(&line)?;
+        self.lines.insert(line)
+    }
+
+    /// Takes out the line of a reference, and answers it.
+    pub fn withdraw(&mut self, reference: u32) -> Result<Line, Refusal>
+        ensures { Withdraws reference self.old result self.new }
+    {
+        if reference == 0 {
+            return Err(Refusal::Value);
+        }
+        self.lines.remove(reference)
+    }
+
+    // The lines that stand, with what their margin is worked on.
+    fn portfolio<'s, C, N>(&'s self, curve: &'s C, rule: &'s N) -> Portfolio<'s, 'p, C, N>
+        ensures market { result.market.now ≡ self.now.market.now }
+        ensures curve { result.curve.now ≡ curve.now }
+        ensures rule { result.rule.now ≡ rule.now }
+        ensures lines { result.lines.now ≡ lines_of self.now }
+    {
+        Portfolio {
+            market: &*self.market,
+            curve,
+            rule,
+            lines: self.lines(),
+        }
+    }
+
+    /// The margin of the lines that stand, by a curve and a netting rule.
+    pub fn margin<'s, C: Curve, N: NettingRule>(
+        &'s self,
+        curve: &'s C,
+        rule: &'s N,
+    ) -> Result<Margin, LineRefusal>
+        ensures { told_margin result ≡ margin_answer (setting_for (C.Curve.reach curve.now) (C.Curve.rate curve.now) (N.NettingRule.charged rule.now) self.now) (lines_of self.now) }
+    {
+        self.portfolio(curve, rule).margin()
+    }
+
+    /// The margin with the rows of its statement, by ISIN, then trades, failed, held and cash-only; they are written as far as there are places.
+    pub fn statement<'s, C: Curve, N: NettingRule>(
+        &'s self,
+        curve: &'s C,
+        rule: &'s N,
+        rows: &mut [Row],
+    ) -> Result<Statement, LineRefusal>
+        ensures { States (setting_for (C.Curve.reach curve.now) (C.Curve.rate curve.now) (N.NettingRule.charged rule.now) self.now) (lines_of self.now) rows.old rows.new result }
+    {
+        self.portfolio(curve, rule).statement(rows)
+    }
+
+    /// Does what a call asks.
+    pub fn take<C: Curve, N: NettingRule>(&mut self, curve: &C, rule: &N, call: Call) -> Answer
+        ensures { Takes (C.Curve.reach curve.now) (C.Curve.rate curve.now) (N.NettingRule.charged rule.now) call self.old result self.new }
+    {
+        match call {
+            Call::Enter(line) => self
+                .enter(line)
+                .map(|()| Reply::Accepted)
+                .map_err(|refusal| LineRefusal::of_line(line.reference, refusal)),
+            Call::Withdraw(reference) => self
+                .withdraw(reference)
+                .map(|_line| Reply::Accepted)
+                .map_err(|refusal| LineRefusal::of_line(reference, refusal)),
+            Call::AskMargin => self.margin(curve, rule).map(Reply::Given),
+        }
+    }
+
+    // Does what each call asks, and writes the answers.
+    pub(crate) fn take_all<C: Curve, N: NettingRule>(
+        &mut self,
+        curve: &C,
+        rule: &N,
+        calls: &[Call],
+        answers: &mut [Answer],
+    )
+        requires { length calls.now ≤ length answers.old }
+        ensures { TakesAll (C.Curve.reach curve.now) (C.Curve.rate curve.now) (N.NettingRule.charged rule.now) calls.now answers.old self.old answers.new self.new }
+    {
+        // Over answers.iter_mut() the proof knows their count, and not what is written in them.
+        for (i, call) in calls.iter().enumerate() {
+            answers[i] = self.take(curve, rule, *call);
+        }
+    }
+}

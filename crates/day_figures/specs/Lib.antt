@@ -1,3 +1,0 @@
-pub mod Trades
-pub mod Account
-pub mod Worked

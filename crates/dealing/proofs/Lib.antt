@@ -1,5 +1,0 @@
-pub mod Entering
-pub mod Withdrawing
-pub mod Taken
-pub mod Working
-pub mod Promise

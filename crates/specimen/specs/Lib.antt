@@ -1,0 +1,4 @@
+pub mod Trades
+pub mod Account
+pub mod Worked
+pub mod Letters

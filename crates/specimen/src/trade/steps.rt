@@ -1,0 +1,85 @@
+//! The steps from a trade to its charge.
+ghost use Rattle.std.specs.Prelude.{◌≡◌, pos, negsuc, ◌≤ℤ◌};
+ghost use Rattle.specimen.specs.Trades.{bought, sold, parts_variation, Checks, Answered};
+
+use super::{Parts, Trade, Valuation};
+use account::line::Side;
+use netting::NettingRule;
+use quantities::amount::{
+    SignedCents, initial_margin, market_value, present_value_down, present_value_up,
+};
+use quantities::date::residual_life;
+use quantities::range::{Cash, MarginPercentage, Rate, Term, Titles, UnitPrice};
+use quantities::refusal::Refusal;
+use quantities::tranche::Tranche;
+
+impl Parts {
+    fn variation_margin(&self, side: Side, term: Term) -> SignedCents
+        ensures is { result ≡ parts_variation side term.days self.now }
+        ensures low { negsuc 2999999999999 ≤ℤ result }
+        ensures high { result ≤ℤ pos 3000000000000 }
+    {
+        let value = market_value(self.price, self.bought, self.sold);
+        match side {
+            Side::Bought => value - present_value_up(self.cash, self.rate, term) as i64,
+            Side::Sold => value + present_value_down(self.cash, self.rate, term) as i64,
+        }
+    }
+}
+
+impl Trade {
+    // The titles bought and sold, of which one side has none.
+    fn sides(&self, titles: Titles) -> (Titles, Titles)
+        ensures bought { titles.count ≡ self.now.titles → result.0.count ≡ bought self.now }
+        ensures sold { titles.count ≡ self.now.titles → result.1.count ≡ sold self.now }
+    {
+        match self.side {
+            Side::Bought => (titles, Titles { count: 0 }),
+            Side::Sold => (Titles { count: 0 }, titles),
+        }
+    }
+
+    fn parts(&self) -> Result<Parts, Refusal>
+        ensures { Checks self.now result }
+    {
+        if !self.isin.is_valid() || self.titles == 0 {
+            return Err(Refusal::Value);
+        }
+        let titles = Titles::new(self.titles)?;
+        let (bought, sold) = self.sides(titles);
+        let cash = Cash::new(self.cash)?;
+        let price = UnitPrice::new(self.price)?;
+        let percentage = MarginPercentage::new(self.percentage)?;
+        let rate = Rate::new(self.rate)?;
+        Ok(Parts {
+            bought,
+            sold,
+            cash,
+            price,
+            percentage,
+            rate,
+        })
+    }
+
+    /// Each step from the trade to its charge.
+    pub fn value<N: NettingRule>(&self, rule: &N) -> Result<Valuation, Refusal>
+        ensures { Answered (N.NettingRule.charged rule.now) self.now result }
+    {
+        let parts = self.parts()?;
+        let term = Term::of_trade(self.today, self.settlement)?;
+        let charged = rule.charge(parts.bought, parts.sold);
+        let initial = initial_margin(charged, parts.price, parts.percentage);
+        let variation = parts.variation_margin(self.side, term);
+        Ok(Valuation {
+            term,
+            tranche: Tranche::of_life(residual_life(self.today, self.maturity)),
+            present_value_up: present_value_up(parts.cash, parts.rate, term),
+            present_value_down: present_value_down(parts.cash, parts.rate, term),
+            charged,
+            initial_margin: initial,
+            market_value: market_value(parts.price, parts.bought, parts.sold),
+            variation_margin: variation,
+            charge: initial as i64 - variation,
+        })
+    }
+}
