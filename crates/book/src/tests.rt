@@ -71,8 +71,8 @@ fn today() -> Result<Day, Fail> {
 
 #[test]
 fn lines_are_refused_in_order(rt: HostRuntime) -> Result<(), Fail> {
-    let mut prices = [Price::blank(); 1];
-    let mut percentages = [Percentage::blank(); 6];
+    let mut prices = [Price::default(); 1];
+    let mut percentages = [Percentage::default(); 6];
     let market = Market::new(today()?, &mut prices, &mut percentages);
     let mut places = [Line::default(); 2];
     let mut book = Book::new(&market, &mut places);
@@ -96,8 +96,8 @@ fn lines_are_refused_in_order(rt: HostRuntime) -> Result<(), Fail> {
 
 #[test]
 fn a_margin_with_its_rows(rt: HostRuntime) -> Result<(), Fail> {
-    let mut prices = [Price::blank(); 2];
-    let mut percentages = [Percentage::blank(); 6];
+    let mut prices = [Price::default(); 2];
+    let mut percentages = [Percentage::default(); 6];
     let mut market = Market::new(today()?, &mut prices, &mut percentages);
     assert_eq!(rt; market.add_price(LONG_BOND, 1_010_000, 11_000), Ok(()));
     assert_eq!(rt; market.add_price(SHORT_BOND, 999_999, 9_100), Ok(()));
@@ -148,8 +148,8 @@ fn a_margin_with_its_rows(rt: HostRuntime) -> Result<(), Fail> {
 
 #[test]
 fn too_few_places_for_answers_and_no_price(rt: HostRuntime) -> Result<(), Fail> {
-    let mut prices = [Price::blank(); 1];
-    let mut percentages = [Percentage::blank(); 6];
+    let mut prices = [Price::default(); 1];
+    let mut percentages = [Percentage::default(); 6];
     let market = Market::new(today()?, &mut prices, &mut percentages);
     let mut point = [Point::new(0, Rate { basis_points: 0 }); 1];
     let points = Points::new(&mut point);

@@ -167,8 +167,8 @@ pub fn show_day(rt: &impl Print) -> io::Result<()> {
     let Ok(day) = Day::new(TODAY, TODAY + 1) else {
         return Ok(());
     };
-    let mut prices = [Price::blank(); 2];
-    let mut percentages = [Percentage::blank(); 6];
+    let mut prices = [Price::default(); 2];
+    let mut percentages = [Percentage::default(); 6];
     let mut market = Market::new(day, &mut prices, &mut percentages);
     let _ = market.add_price(LONG_BOND, 1_010_000, 11_000);
     let _ = market.add_price(SHORT_BOND, 999_999, 9_100);

@@ -112,7 +112,7 @@ impl<'a> Market<'a> {
     {
         let tranche = Tranche::of_life(life);
         self.percentages
-            .find(tranche.number())
+            .find(u8::from(tranche))
             .map(|found| found.percentage)
     }
 }

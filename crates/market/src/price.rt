@@ -27,7 +27,7 @@ impl Price {
         if !isin.is_valid() {
             return Err(Refusal::Value);
         }
-        let price = UnitPrice::new(price)?;
+        let price = UnitPrice::try_from(price)?;
         Ok(Price {
             isin,
             price,
@@ -72,8 +72,8 @@ impl Percentage {
     pub fn new(tranche: u8, percentage: u16) -> Result<Percentage, Refusal>
         ensures { told percentage_parts result ≡ fitted (percentage_fits tranche percentage) (tranche, percentage) }
     {
-        let tranche = Tranche::new(tranche)?;
-        let percentage = MarginPercentage::new(percentage)?;
+        let tranche = Tranche::try_from(tranche)?;
+        let percentage = MarginPercentage::try_from(percentage)?;
         Ok(Percentage {
             tranche,
             percentage,
@@ -98,6 +98,6 @@ impl Record for Percentage {
     ghost key_of = { λ p. tranche_number p.tranche };
 
     fn key(&self) -> u8 {
-        self.tranche.number()
+        u8::from(self.tranche)
     }
 }

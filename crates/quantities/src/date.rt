@@ -16,9 +16,10 @@ pub const LATEST_SETTLEMENT: u16 = 365;
 pub fn settlement_date(today: Date, date: Date) -> Result<Date, Refusal>
     ensures { told (λ d. d) result ≡ dated (settles_in_time today date) date }
 {
-    match date.checked_sub(today) {
-        Some(0..=LATEST_SETTLEMENT) => Ok(date),
-        _ => Err(Refusal::Date),
+    match date {
+        early if early < today => Err(Refusal::Date),
+        late if late - today > LATEST_SETTLEMENT => Err(Refusal::Date),
+        _ => Ok(date),
     }
 }
 
@@ -26,10 +27,9 @@ pub fn settlement_date(today: Date, date: Date) -> Result<Date, Refusal>
 pub fn past_date(today: Date, date: Date) -> Result<Date, Refusal>
     ensures { told (λ d. d) result ≡ dated (is_past today date) date }
 {
-    if date <= today {
-        Ok(date)
-    } else {
-        Err(Refusal::Date)
+    match date {
+        future if future > today => Err(Refusal::Date),
+        _ => Ok(date),
     }
 }
 

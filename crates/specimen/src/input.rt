@@ -91,7 +91,7 @@ impl FromStr for IsinText {
     type Err = Fault;
 
     fn from_str(text: &str) -> Result<IsinText, Fault> {
-        Isin::read(text.as_bytes())
+        Isin::try_from(text.as_bytes())
             .map(IsinText)
             .map_err(|_| Fault::NotAnIsin)
     }

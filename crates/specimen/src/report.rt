@@ -18,7 +18,7 @@ pub fn show_refusal(rt: &impl Print, name: &str, refusal: Refusal) -> io::Result
 /// Each step of a trade's charge.
 pub fn show_steps(rt: &impl Print, steps: &Valuation) -> io::Result<()> {
     show(rt, "term in days", steps.term.days)?;
-    show(rt, "tranche", steps.tranche.number())?;
+    show(rt, "tranche", u8::from(steps.tranche))?;
     show(rt, "present value, rounded up", steps.present_value_up)?;
     show(rt, "present value, rounded down", steps.present_value_down)?;
     show(rt, "titles charged", steps.charged.count)?;

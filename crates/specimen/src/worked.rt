@@ -82,22 +82,22 @@ fn show_netting(rt: &impl Print) -> io::Result<()> {
 }
 
 fn show_tranches(rt: &impl Print) -> io::Result<()> {
-    show(rt, "tranche of 365 days", Tranche::of_life(365).number())?;
-    show(rt, "tranche of 366 days", Tranche::of_life(366).number())?;
+    show(rt, "tranche of 365 days", u8::from(Tranche::of_life(365)))?;
+    show(rt, "tranche of 366 days", u8::from(Tranche::of_life(366)))?;
     show(
         rt,
         "tranche of 7,300 days",
-        Tranche::of_life(7_300).number(),
+        u8::from(Tranche::of_life(7_300)),
     )?;
     show(
         rt,
         "tranche of 7,301 days",
-        Tranche::of_life(7_301).number(),
+        u8::from(Tranche::of_life(7_301)),
     )
 }
 
 fn show_isin(rt: &impl Print, text: &str) -> io::Result<()> {
-    match Isin::read(text.as_bytes()) {
+    match Isin::try_from(text.as_bytes()) {
         Ok(_) => show(rt, text, "passes"),
         Err(refusal) => show_refusal(rt, text, refusal),
     }

@@ -61,7 +61,7 @@ impl<'a> Points<'a> {
         ensures change { Adds self.old.room term rate self.old.records result self.new.records }
         ensures room { self.new.room ≡ self.old.room }
     {
-        let rate = Rate::new(rate)?;
+        let rate = Rate::try_from(rate)?;
         self.list.insert(Point::new(term, rate))
     }
 }

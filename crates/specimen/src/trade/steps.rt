@@ -45,12 +45,12 @@ impl Trade {
         if !self.isin.is_valid() || self.titles == 0 {
             return Err(Refusal::Value);
         }
-        let titles = Titles::new(self.titles)?;
+        let titles = Titles::try_from(self.titles)?;
         let (bought, sold) = self.sides(titles);
-        let cash = Cash::new(self.cash)?;
-        let price = UnitPrice::new(self.price)?;
-        let percentage = MarginPercentage::new(self.percentage)?;
-        let rate = Rate::new(self.rate)?;
+        let cash = Cash::try_from(self.cash)?;
+        let price = UnitPrice::try_from(self.price)?;
+        let percentage = MarginPercentage::try_from(self.percentage)?;
+        let rate = Rate::try_from(self.rate)?;
         Ok(Parts {
             bought,
             sold,

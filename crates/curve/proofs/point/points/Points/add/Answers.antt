@@ -11,5 +11,5 @@ returns-clause-change c =
     let v : to_z w16 (of_z w16 c.args.rate) ≡ c.args.rate = omega (arith, ints) in
     rw (← c.self.view_is) record {
       out_of_range = λ e. absurd (false≢true (sym e ∙ (ap rate_fits (sym v) ∙ a.0)));
-      in_range = λ e. (c.new-2.result, ((c.new-2.ensures.at, ap (λ r. r.basis_points) c.new-2.ensures.has ∙ (a.1 ∙ v)), c.insert.ensures.change));
+      in_range = λ e. (c.new.result, ((c.new.ensures.at, ap (λ r. r.basis_points) c.new.ensures.has ∙ (a.1 ∙ v)), c.insert.ensures.change));
     }
