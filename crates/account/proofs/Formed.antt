@@ -2,7 +2,8 @@
 use Rattle.std.proofs.Common.{◌≡◌, ℕ, zero, suc, ◌-◌, ◌%◌, ◌<◌, ◌≤◌, Bool, true, false, ◌&&◌, eqb, leb, List, [], ◌∷◌, length, get_or, take, drop, refl, ap, ◌∙◌, subst, ⊎_elim, arith}
 use Rattle.std.proofs.lemmas.List.{length-take, length-drop, get_or-take, get_or-drop}
 use Rattle.std.proofs.lemmas.Bool.{false≢true, and_parts, or_cases, or_left, or_right, leb-true, eqb-true, cases_lt}
-use Rattle.quantities.specs.Isins.{all, is_letter, is_digit, is_letter_or_digit, isin_shaped, check_sum, is_isin}
+use Rattle.std.specs.List.{list_all}
+use Rattle.quantities.specs.Isins.{is_letter, is_digit, is_letter_or_digit, isin_shaped, check_sum, is_isin}
 use Rattle.quantities.specs.Ranges.{most_cash, most_titles, highest_reference}
 use Rattle.register.specs.Bytes.{Bytes}
 use Rattle.account.specs.declared.line.Line.{Line}
@@ -36,10 +37,10 @@ formed_titles l f = go (kind l.block) (formed_parts l f).titles
     go cash_only h = omega (arith, eqb-true l.titles 0 h)
 
 -- ---- an ISIN is twelve bytes
-all_at : (p : ℕ → Bool) (bs : List ℕ) → all p bs ≡ true → (i : ℕ) → i < length bs → p (get_or bs i 0) ≡ true
+all_at : (p : ℕ → Bool) (bs : List ℕ) → list_all p bs ≡ true → (i : ℕ) → i < length bs → p (get_or bs i 0) ≡ true
 all_at p [] h i l = absurd (omega arith)
-all_at p (b ∷ bs) h zero l = (and_parts (p b) (all p bs) h).0
-all_at p (b ∷ bs) h (suc i) l = all_at p bs (and_parts (p b) (all p bs) h).1 i (omega arith)
+all_at p (b ∷ bs) h zero l = (and_parts (p b) (list_all p bs) h).0
+all_at p (b ∷ bs) h (suc i) l = all_at p bs (and_parts (p b) (list_all p bs) h).1 i (omega arith)
 
 small : (b : ℕ) → is_letter_or_digit b ≡ true → b < 256
 small b h =
@@ -49,9 +50,9 @@ small b h =
 isin_bytes : (bs : List ℕ) → is_isin bs ≡ true → Bytes 12 bs
 isin_bytes bs h =
     let s = (and_parts (isin_shaped bs) (eqb (check_sum bs % 10) 0) h).0 in
-    let a = and_parts (eqb (length bs) 12) (all is_letter (take 2 bs) && (all is_letter_or_digit (take 9 (drop 2 bs)) && all is_digit (take 1 (drop 11 bs)))) s in
-    let b = and_parts (all is_letter (take 2 bs)) (all is_letter_or_digit (take 9 (drop 2 bs)) && all is_digit (take 1 (drop 11 bs))) a.1 in
-    let c = and_parts (all is_letter_or_digit (take 9 (drop 2 bs))) (all is_digit (take 1 (drop 11 bs))) b.1 in
+    let a = and_parts (eqb (length bs) 12) (list_all is_letter (take 2 bs) && (list_all is_letter_or_digit (take 9 (drop 2 bs)) && list_all is_digit (take 1 (drop 11 bs)))) s in
+    let b = and_parts (list_all is_letter (take 2 bs)) (list_all is_letter_or_digit (take 9 (drop 2 bs)) && list_all is_digit (take 1 (drop 11 bs))) a.1 in
+    let c = and_parts (list_all is_letter_or_digit (take 9 (drop 2 bs))) (list_all is_digit (take 1 (drop 11 bs))) b.1 in
     let n : length bs ≡ 12 = eqb-true (length bs) 12 a.0 in
     record {
       many = n;

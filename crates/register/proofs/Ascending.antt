@@ -36,7 +36,7 @@ module _ {X : Type 0} (f : X → ℕ) where
       let b = up (i + suc m) d (omega arith) in
       rw e (omega arith)
 
-  far : (xs : List X) → Ascends f xs → Far f xs
+  pub far : (xs : List X) → Ascends f xs → Far f xs
   far xs up i j d l m =
       let e : j ≡ i + suc (j - i - 1) = omega arith in
       rw e (ahead xs up d i (j - i - 1) (omega arith))

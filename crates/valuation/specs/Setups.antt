@@ -1,18 +1,17 @@
 -- The setting that a setup stands for.
 use Rattle.std.specs.Prelude.{ℕ, ℤ}
-use Rattle.market.specs.declared.market.Market.{Market}
-use Rattle.market.specs.Contents.{prices_of, percentages_of}
+use Rattle.market.specs.Contents.{Quotes}
 use Rattle.account.specs.Settings.{Setting}
 use Rattle.valuation.specs.declared.setup.Setup.{Setup}
 
 -- a market with a curve and a netting rule, by what the two mean
-abbrev pub setting_with : ℕ → (ℕ → ℤ) → (ℕ → ℕ → ℕ) → Market → Setting
+abbrev pub setting_with : ℕ → (ℕ → ℤ) → (ℕ → ℕ → ℕ) → Quotes → Setting
 setting_with reach rate charged m =
     record {
-      today = m.today;
-      next = m.next;
-      prices = prices_of m;
-      percentages = percentages_of m;
+      today = m.day.today;
+      next = m.day.next;
+      prices = m.prices;
+      percentages = m.percentages;
       reach = reach;
       rate = rate;
       charged = charged;

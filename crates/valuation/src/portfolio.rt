@@ -19,6 +19,6 @@ pub struct Portfolio<'a, 'p, C, N> {
     pub rule: &'a N,
     pub lines: &'a [Line],
     ghost few: { length lines.now ≤ 65535 },
-    ghost taken: { each_taken market.now.today lines.now ≡ true },
+    ghost taken: { each_taken market.now.day.today lines.now ≡ true },
     ghost titles: { (i : Isin) (k : Kind) → titles_of i k lines.now ≤ most_titles },
 }
