@@ -1,8 +1,8 @@
 -- The first ISIN that passes a test, with one more ISIN.
-use Rattle.std.proofs.Common.{◌≡◌, ℕ, ◌+◌, ◌<◌, ◌≤◌, Bool, true, false, cond, ltb, List, [], ◌∷◌, length, get_or, drop, Some, None, Option, sym, refl, ap, ◌∙◌, subst, ⊎_elim, arith}
+use Rattle.std.proofs.Common.{◌≡◌, ℕ, ◌<◌, ◌≤◌, Bool, true, false, cond, ltb, List, [], ◌∷◌, Some, None, Option, sym, refl, ap, ◌∙◌, subst, ⊎_elim, arith}
 use Rattle.std.proofs.ByRecursion.{All-weaker}
 use Rattle.std.proofs.lemmas.Bool.{cond_both, cond-true, cond-false, lt-ltb, le-ltb, ltb-true, ltb-false, or_cases, both_ways, false≢true}
-use Rattle.std.proofs.lemmas.List.{at_drop_more, at_drop_all}
+use Rattle.std.specs.List.{fold, filter}
 use Rattle.std.proofs.lemmas.Bool.Decides.{nat_tests}
 use Rattle.quantities.specs.declared.isin.Isin.{Isin}
 use Rattle.register.specs.Keys.{inserted_by}
@@ -11,7 +11,7 @@ use Rattle.account.specs.declared.line.Line.{Line}
 use Rattle.account.specs.Lines.{keep, has_isin, with_isin, isins, TwelveBytes}
 use Rattle.account.proofs.Terms.{same_isin_decides}
 use Rattle.valuation.specs.Walk.{comes_after, later_isins, first_isin, earlier}
-use Rattle.valuation.proofs.Rising.{Above, Rises, rising, twelve_drop}
+use Rattle.valuation.proofs.Rising.{Above, Rises, rising}
 
 -- an ISIN where it passes
 abbrev if_passes : (Isin → Bool) → Isin → Option Isin
@@ -79,23 +79,29 @@ earlier_of_three (Some i) None c = refl
 earlier_of_three (Some i) (Some j) None = refl
 earlier_of_three (Some i) (Some j) (Some k) = grind (arith, nat_tests)
 
+-- ---- the first of lines, by the words of the library
+-- the earlier of the best so far and the ISIN of a line
+abbrev pub better : Option Isin → Line → Option Isin
+better best l = earlier best (Some l.isin)
+
 pub earlier_none : (a : Option Isin) → earlier a None ≡ a
 earlier_none None = refl
 earlier_none (Some i) = refl
 
--- ---- the first of the lines so far, before the line k
-abbrev pub SoFar : Option Isin → List Line → ℕ → Option Isin → Type 0
-SoFar after ls k best = earlier best (first_isin (later_isins after (drop k ls))) ≡ first_isin (later_isins after ls)
+from_best : (after best : Option Isin) (ls : List Line) → TwelveBytes ls → fold better best (filter (λ l. comes_after after l.isin) ls) ≡ earlier best (first_isin (later_isins after ls))
+from_best after best [] b = sym (earlier_none best)
+from_best after best (l ∷ ls) b =
+    go (comes_after after l.isin) (from_best after (better best l) ls b.1) (from_best after best ls b.1)
+    ∙ sym (earlier_of_three best (if_passes (comes_after after) l.isin) (first_isin (later_isins after ls)))
+    ∙ ap (earlier best) (sym (first_with (comes_after after) l.isin (isins ls) (rising ls b.1)))
+  where
+    kept : List Line
+    kept = filter (λ l. comes_after after l.isin) ls
 
-pub so_far_more : (after : Option Isin) (ls : List Line) (k : ℕ) (l : Line) (best next : Option Isin) (b : Bool) → k < length ls → TwelveBytes ls →
-    b ≡ comes_after after (get_or ls k l).isin → next ≡ earlier best (cond b (Some (get_or ls k l).isin) None) → SoFar after ls k best → SoFar after ls (k + 1) next
-so_far_more after ls k l best next b h twelve p e s =
-    let i = (get_or ls k l).isin in
-    let rest = first_isin (later_isins after (drop (k + 1) ls)) in
-    ap (λ o. earlier o rest) (e ∙ ap (λ t. earlier best (cond t (Some i) None)) p)
-    ∙ sym (earlier_of_three best (if_passes (comes_after after) i) rest)
-    ∙ ap (earlier best) (sym (at_drop_more (λ ms. first_isin (later_isins after ms)) ls k l h ∙ first_with (comes_after after) i (isins (drop (k + 1) ls)) (rising _ (twelve_drop (k + 1) ls twelve))))
-    ∙ s
+    go : (t : Bool) → fold better (better best l) kept ≡ earlier (better best l) (first_isin (later_isins after ls)) → fold better best kept ≡ earlier best (first_isin (later_isins after ls)) →
+        fold better best (cond t (l ∷ kept) kept) ≡ earlier (earlier best (cond t (Some l.isin) None)) (first_isin (later_isins after ls))
+    go true e d = e
+    go false e d = d ∙ ap (λ o. earlier o (first_isin (later_isins after ls))) (sym (earlier_none best))
 
-pub so_far_all : (after : Option Isin) (ls : List Line) (k : ℕ) (best : Option Isin) → length ls ≤ k → SoFar after ls k best → best ≡ first_isin (later_isins after ls)
-so_far_all after ls k best h s = sym (earlier_none best) ∙ ap (earlier best) (sym (at_drop_all (λ ms. first_isin (later_isins after ms)) ls k h)) ∙ s
+pub next_is : (after : Option Isin) (ls : List Line) → TwelveBytes ls → fold better None (filter (λ l. comes_after after l.isin) ls) ≡ first_isin (later_isins after ls)
+next_is after ls b = from_best after None ls b

@@ -1,5 +1,5 @@
 -- The ISINs of lines rise: each has a lower rank than all after it.
-use Rattle.std.proofs.Common.{ℕ, zero, suc, ◌<◌, List, [], ◌∷◌, drop, arith}
+use Rattle.std.proofs.Common.{ℕ, suc, ◌<◌, List, [], ◌∷◌, arith}
 use native.Mathlib.Numerals.{unary_clauses}
 use Rattle.std.specs.List.{AllByRecursion as All}
 use Rattle.std.proofs.ByRecursion.{All-from_get_or}
@@ -28,8 +28,3 @@ from_ascends (j ∷ js) up = (
 
 pub rising : (ls : List Line) → TwelveBytes ls → Rises (isins ls)
 rising ls b = from_ascends (isins ls) (isins_law ls b).0
-
-pub twelve_drop : (k : ℕ) (ls : List Line) → TwelveBytes ls → TwelveBytes (drop k ls)
-twelve_drop zero ls b = b
-twelve_drop (suc k) [] b = tt
-twelve_drop (suc k) (l ∷ ls) b = twelve_drop k ls b.1

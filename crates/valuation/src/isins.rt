@@ -6,16 +6,12 @@ ghost use Rattle.valuation.specs.Walk.{comes_after, later_isins, earlier, first_
 use account::line::Line;
 use quantities::isin::Isin;
 use register::key::byte_order;
-use std::cmp::Ordering;
 
 // Whether an ISIN comes after another; each comes after none.
 fn comes_after(after: Option<Isin>, isin: Isin) -> bool
     ensures { result ≡ comes_after after isin }
 {
-    match after {
-        None => true,
-        Some(last) => byte_order(&last.bytes, &isin.bytes).is_lt(),
-    }
+    after.is_none_or(|last| byte_order(&last.bytes, &isin.bytes).is_lt())
 }
 
 // The earlier of the best so far and an ISIN.
@@ -24,10 +20,13 @@ fn better(best: Option<Isin>, isin: Isin) -> Isin
 {
     match best {
         None => isin,
-        Some(other) => match byte_order(&other.bytes, &isin.bytes) {
-            Ordering::Less => other,
-            _ => isin,
-        },
+        Some(other) => {
+            if byte_order(&other.bytes, &isin.bytes).is_lt() {
+                other
+            } else {
+                isin
+            }
+        }
     }
 }
 
@@ -36,11 +35,8 @@ pub(crate) fn next_isin(lines: &[Line], after: Option<Isin>) -> Option<Isin>
     requires { TwelveBytes lines.now }
     ensures { result ≡ first_isin (later_isins after lines.now) }
 {
-    let mut next = None;
-    for line in lines {
-        if comes_after(after, line.isin) {
-            next = Some(better(next, line.isin));
-        }
-    }
-    next
+    lines
+        .iter()
+        .filter(|line| comes_after(after, line.isin))
+        .fold(None, |best, line| Some(better(best, line.isin)))
 }
