@@ -2,7 +2,6 @@
 use Rattle.std.specs.Prelude.{◌≡◌, ℕ, cond, List, length, drop, ℤ, None, Result, ◌==◌}
 use Rattle.std.specs.Result.{result_ok}
 use Rattle.quantities.specs.declared.refusal.Refusal.{Refusal}
-use Rattle.register.specs.Contents.{records_of, room_of}
 use Rattle.register.specs.Keys.{found_by}
 use Rattle.account.specs.declared.line.Line.{Line}
 use Rattle.account.specs.declared.call.Call.{Call}
@@ -15,15 +14,15 @@ use Rattle.book.specs.declared.book.Book.{Book}
 
 -- its lines, by reference
 abbrev pub lines_of : Book → List Line
-lines_of b = records_of b.lines
+lines_of b = b.lines.records
 
 -- how many lines it can hold
 abbrev pub room_for : Book → ℕ
-room_for b = room_of b.lines
+room_for b = b.lines.room
 
 -- its day
 abbrev pub today_of : Book → ℕ
-today_of b = b.market.now.today
+today_of b = b.market.now.day.today
 
 -- a book has the market and the room of another
 pub record SameFrame (b c : Book) : Type 0 where

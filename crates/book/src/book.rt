@@ -1,10 +1,7 @@
 //! The book.
 ghost use Rattle.std.specs.Prelude.{◌≡◌, ◌≤◌, true};
-ghost use Rattle.register.specs.Contents.{records_of};
-ghost use Rattle.register.specs.Keys.{Ascends};
 ghost use Rattle.quantities.specs.declared.isin.Isin.{Isin};
 ghost use Rattle.account.specs.Lines.{Kind};
-ghost use Rattle.account.specs.Calls.{line_rank};
 ghost use Rattle.account.specs.Answers.{titles_of};
 ghost use Rattle.quantities.specs.Ranges.{most_titles};
 ghost use Rattle.account.specs.Taken.{each_taken};
@@ -15,12 +12,11 @@ use register::register::Register;
 
 pub mod methods;
 
-/// The lines that stand, ascending by reference, over a market.
+/// The lines that stand, by reference, over a market.
 #[derive(Drop)]
 pub struct Book<'m, 'p, 'l> {
     market: &'m Market<'p>,
     lines: Register<'l, Line>,
-    ghost ascends: { Ascends line_rank (records_of lines) },
-    ghost taken: { each_taken market.now.today (records_of lines) ≡ true },
-    ghost titles: { (i : Isin) (k : Kind) → titles_of i k (records_of lines) ≤ most_titles },
+    ghost taken: { each_taken market.now.day.today lines.records ≡ true },
+    ghost titles: { (i : Isin) (k : Kind) → titles_of i k lines.records ≤ most_titles },
 }

@@ -63,7 +63,7 @@ pub fn check_titles(lines: &[Line], line: &Line) -> Result<(), Refusal>
     requires own { line.now.titles ≤ most_titles }
     ensures { Checks 8 (nat_le (titles_with line.now lines.now) most_titles) result }
 {
-    let standing = titles_standing(lines, line.isin, BlockKind::of(line.block));
+    let standing = titles_standing(lines, line.isin, BlockKind::from(line.block));
     if standing + line.titles <= Titles::MOST {
         Ok(())
     } else {

@@ -41,7 +41,8 @@ impl<'a, R: Record> Register<'a, R> {
 
     /// How many records it can hold.
     pub fn room(&self) -> usize
-        ensures { result ≡ self.now.room }
+        ensures is { result ≡ self.now.room }
+        ensures most { result ≤ 65535 }
     {
         self.places.len().min(MOST)
     }

@@ -17,7 +17,7 @@ returns-then-is_some c = λ room.
     let b = c.args.self.now in
     let l = c.args.line.now in
     present (today_of b) room (lines_of b) l c.in_ok-check_form.ensures
-    (sym (found_tells l.reference (lines_of b) c.find.result (c.find.ensures.found b.ascends)) ∙ sym c.if-is_some.ensures)
+    (sym (found_tells l.reference (lines_of b) c.find.result c.find.ensures.found) ∙ sym c.if-is_some.ensures)
 
 pub returns-in_err-check_date : goal.returns-in_err-check_date
 returns-in_err-check_date c =
@@ -25,7 +25,7 @@ returns-in_err-check_date c =
     let l = c.args.line.now in
     let p = err_from_is_err_and c.from_residual-in_err-check_date.result c.from_residual-in_err-check_date.ensures.1 in
     let h = c.in_err-check_date.ensures in
-    let new : has_rank line_rank l.reference (lines_of b) ≡ false = sym (found_tells l.reference (lines_of b) c.find.result (c.find.ensures.found b.ascends)) ∙ sym c.if-is_some.ensures in
+    let new : has_rank line_rank l.reference (lines_of b) ≡ false = sym (found_tells l.reference (lines_of b) c.find.result c.find.ensures.found) ∙ sym c.if-is_some.ensures in
     let late : well_dated (today_of b) l.block ≡ false = ap (λ day. well_dated day l.block) (sym c.today.ensures) ∙ h.0 in
     rw (p.1, p.2) (λ room. ap (λ n. refused n l.reference) h.1 ∙ ill_dated (today_of b) room (lines_of b) l c.in_ok-check_form.ensures new late)
 
@@ -42,7 +42,7 @@ pub returns : goal.returns
 returns c =
     let b = c.args.self.now in
     let l = c.args.line.now in
-    let new : has_rank line_rank l.reference (lines_of b) ≡ false = sym (found_tells l.reference (lines_of b) c.find.result (c.find.ensures.found b.ascends)) ∙ sym c.if-is_some.ensures in
+    let new : has_rank line_rank l.reference (lines_of b) ≡ false = sym (found_tells l.reference (lines_of b) c.find.result c.find.ensures.found) ∙ sym c.if-is_some.ensures in
     let dated : well_dated (today_of b) l.block ≡ true = ap (λ day. well_dated day l.block) (sym c.today.ensures) ∙ c.in_ok-check_date.ensures in
     titles_checked (today_of b) (lines_of b) l c.in_ok-check_form.ensures new dated c.check_titles.result
     (subst (λ (ls : List Line). Checks 8 (leb (titles_with l ls) most_titles) c.check_titles.result) c.lines.ensures c.check_titles.ensures)

@@ -7,10 +7,9 @@ use Rattle.book.proofs.book.Book.enter.Goals as goal
 pub invariant_of-self : goal.invariant_of-self
 invariant_of-self c =
     let b = c.args.self.now in
-    let i = c.insert.ensures.change b.ascends in
+    let i = c.insert.ensures.change in
     let a = c.in_ok-admit.ensures in
     record {
-      ascends = i.ascends;
       taken = insert_taken (today_of b) (room_for b) c.args.line (lines_of b) _ a i.leaves b.taken;
       titles = insert_titles (today_of b) (room_for b) c.args.line (lines_of b) _ a i.leaves b.titles;
     }
@@ -18,7 +17,7 @@ invariant_of-self c =
 pub returns : goal.returns
 returns c =
     let b = c.args.self.now in
-    let i = c.insert.ensures.change b.ascends in
+    let i = c.insert.ensures.change in
     let a = c.in_ok-admit.ensures in
     record {
       answers = enter_answers (today_of b) (room_for b) c.args.line (lines_of b) _ c.insert.result a i;

@@ -12,9 +12,8 @@ pub invariant_of-self : goal.invariant_of-self
 invariant_of-self c =
     let b = c.args.self.now in
     let r = c.args.reference in
-    let o = c.remove.ensures.change b.ascends in
+    let o = c.remove.ensures.change in
     record {
-      ascends = o.ascends;
       taken = subst (λ (ms : List Line). each_taken (today_of b) ms ≡ true) (sym o.leaves) (taken_without (today_of b) r (lines_of b) b.taken);
       titles = λ i k. subst (λ (ms : List Line). titles_of i k ms ≤ most_titles) (sym o.leaves) (omega (arith, titles_without i k r (lines_of b), b.titles i k));
     }
@@ -23,7 +22,7 @@ pub returns : goal.returns
 returns c =
     let b = c.args.self.now in
     let r = c.args.reference in
-    let o = c.remove.ensures.change b.ascends in
+    let o = c.remove.ensures.change in
     record {
       answers = withdraw_answers r (lines_of b) _ c.remove.result c.if-reference-eq0.false o;
       line = withdraw_line r (lines_of b) _ c.remove.result c.if-reference-eq0.false o;
