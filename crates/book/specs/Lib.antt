@@ -1,4 +1,3 @@
 pub mod Checks
 pub mod Books
-pub mod Terms
 pub mod Ledgers

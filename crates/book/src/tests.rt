@@ -1,6 +1,7 @@
 //! A book at its edges.
 use crate::book::Book;
-use crate::work::{Ledger, Terms, work_calls};
+use crate::work::{Ledger, work_calls};
+use valuation::setup::Setup;
 use account::call::{Answer, Call, LineRefusal, Margin, Reply};
 use account::line::{Block, Line, Side};
 use account::row::{Row, Scope};
@@ -154,7 +155,7 @@ fn too_few_places_for_answers_and_no_price(rt: HostRuntime) -> Result<(), Fail> 
     let mut point = [Point::new(0, Rate { basis_points: 0 }); 1];
     let points = Points::new(&mut point);
     let curve = StepCurve { points: &points };
-    let terms = Terms {
+    let setup = Setup {
         market: &market,
         curve: &curve,
         rule: &Net,
@@ -172,12 +173,12 @@ fn too_few_places_for_answers_and_no_price(rt: HostRuntime) -> Result<(), Fail> 
         answers: &mut one,
         places: &mut places,
     };
-    assert_eq!(rt; told(work_calls(&terms, &mut short)), (14, 0));
+    assert_eq!(rt; told(work_calls(&setup, &mut short)), (14, 0));
     let mut long = Ledger {
         calls: &calls,
         answers: &mut two,
         places: &mut places,
     };
-    assert_eq!(rt; told(work_calls(&terms, &mut long)), (10, 5));
+    assert_eq!(rt; told(work_calls(&setup, &mut long)), (10, 5));
     Ok(())
 }

@@ -3,23 +3,15 @@ ghost use Rattle.std.specs.Prelude.{◌≤◌, length};
 ghost use Rattle.account.specs.Calls.{told_margin};
 ghost use Rattle.account.specs.History.{JointKept};
 ghost use Rattle.book.specs.Ledgers.{events_of, Works};
-ghost use Rattle.book.specs.Terms.{setting_of};
+ghost use Rattle.valuation.specs.Setups.{setting_of};
 
 use crate::book::Book;
 use account::call::{Answer, Call, LineRefusal, Margin};
 use account::line::Line;
 use curve::Curve;
-use market::market::Market;
 use netting::NettingRule;
 use quantities::refusal::Refusal;
-
-/// What lists of calls are worked on: a day's market, a discount curve and a netting rule.
-#[derive(Drop)]
-pub struct Terms<'a, 'p, C, N> {
-    pub market: &'a Market<'p>,
-    pub curve: &'a C,
-    pub rule: &'a N,
-}
+use valuation::setup::Setup;
 
 /// A list of calls, with places for its answers and for the lines of its book.
 #[derive(Drop)]
@@ -33,28 +25,28 @@ impl Ledger<'_> {
     // Takes the calls on a book without lines, writes their answers, and asks the margin.
     fn work_through<C: Curve, N: NettingRule>(
         &mut self,
-        terms: &Terms<'_, '_, C, N>,
+        setup: &Setup<'_, '_, C, N>,
     ) -> Result<Margin, LineRefusal>
-        ensures { Works (setting_of C.Curve.reach C.Curve.rate N.NettingRule.charged terms.now) self.old self.new (told_margin result) }
+        ensures { Works (setting_of C.Curve.reach C.Curve.rate N.NettingRule.charged setup.now) self.old self.new (told_margin result) }
     {
         if self.answers.len() < self.calls.len() {
             return Err(LineRefusal::of_line(0, Refusal::TooLong));
         }
-        let mut book = Book::new(terms.market, self.places);
-        book.take_all(terms.curve, terms.rule, self.calls, self.answers);
-        book.margin(terms.curve, terms.rule)
+        let mut book = Book::new(setup.market, self.places);
+        book.take_all(setup.curve, setup.rule, self.calls, self.answers);
+        book.margin(setup.curve, setup.rule)
     }
 }
 
 /// Works a list of calls through on a book without lines, writes the answer to each, and then gives the margin.
 /// Fewer places for answers than calls are refused 14, with nothing done.
 pub fn work_calls<C: Curve, N: NettingRule>(
-    terms: &Terms<'_, '_, C, N>,
+    setup: &Setup<'_, '_, C, N>,
     ledger: &mut Ledger<'_>,
 ) -> Result<Margin, LineRefusal>
-    ensures { Works (setting_of C.Curve.reach C.Curve.rate N.NettingRule.charged terms.now) ledger.old ledger.new (told_margin result) }
+    ensures { Works (setting_of C.Curve.reach C.Curve.rate N.NettingRule.charged setup.now) ledger.old ledger.new (told_margin result) }
 {
-    ledger.work_through(terms)
+    ledger.work_through(setup)
 }
 
 /// What the margins of three books are answered.
@@ -68,19 +60,19 @@ pub struct ThreeMargins {
 /// Works three lists of calls through, each on a book of its own, on one market, curve and netting rule.
 /// Where the third book is the joint book of the first two and theirs are given, its margin is given, and at most theirs added.
 pub fn work_three_books<C: Curve, N: NettingRule>(
-    terms: &Terms<'_, '_, C, N>,
+    setup: &Setup<'_, '_, C, N>,
     first: &mut Ledger<'_>,
     second: &mut Ledger<'_>,
     third: &mut Ledger<'_>,
 ) -> ThreeMargins
-    ensures first { Works (setting_of C.Curve.reach C.Curve.rate N.NettingRule.charged terms.now) first.old first.new (told_margin result.first) }
-    ensures second { Works (setting_of C.Curve.reach C.Curve.rate N.NettingRule.charged terms.now) second.old second.new (told_margin result.second) }
-    ensures third { Works (setting_of C.Curve.reach C.Curve.rate N.NettingRule.charged terms.now) third.old third.new (told_margin result.third) }
+    ensures first { Works (setting_of C.Curve.reach C.Curve.rate N.NettingRule.charged setup.now) first.old first.new (told_margin result.first) }
+    ensures second { Works (setting_of C.Curve.reach C.Curve.rate N.NettingRule.charged setup.now) second.old second.new (told_margin result.second) }
+    ensures third { Works (setting_of C.Curve.reach C.Curve.rate N.NettingRule.charged setup.now) third.old third.new (told_margin result.third) }
     ensures joint { length third.old.calls.now ≤ length third.old.answers.now → JointKept (events_of first.new) (events_of second.new) (events_of third.new) (told_margin result.first) (told_margin result.second) (told_margin result.third) }
 {
     ThreeMargins {
-        first: first.work_through(terms),
-        second: second.work_through(terms),
-        third: third.work_through(terms),
+        first: first.work_through(setup),
+        second: second.work_through(setup),
+        third: third.work_through(setup),
     }
 }

@@ -1,7 +1,8 @@
 //! A day of two accounts: each is worked call by call, then both are put together.
 use account::call::{Answer, Call, LineRefusal, Margin, Reply};
 use account::line::{Block, Line, Side};
-use book::work::{Ledger, Terms, work_three_books};
+use book::work::{Ledger, work_three_books};
+use valuation::setup::Setup;
 use curve::point::Point;
 use curve::point::points::Points;
 use curve::step::StepCurve;
@@ -127,13 +128,13 @@ fn work_on(rt: &impl Print, market: &Market<'_>, points: &Points<'_>) -> io::Res
     let mut first_places = [Line::default(); 8];
     let mut second_places = [Line::default(); 8];
     let mut joint_places = [Line::default(); 8];
-    let terms = Terms {
+    let setup = Setup {
         market,
         curve: &curve,
         rule: &Net,
     };
     let margins = work_three_books(
-        &terms,
+        &setup,
         &mut Ledger {
             calls: &first,
             answers: &mut first_answers,

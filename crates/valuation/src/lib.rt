@@ -11,7 +11,7 @@ mod quote;
 mod ready;
 mod rows;
 mod scope;
-mod setup;
+pub mod setup;
 mod sums;
 mod tally;
 mod walk;

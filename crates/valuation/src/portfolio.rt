@@ -6,19 +6,17 @@ ghost use Rattle.account.specs.Taken.{each_taken};
 ghost use Rattle.quantities.specs.Ranges.{most_titles};
 ghost use Rattle.quantities.specs.declared.isin.Isin.{Isin};
 
+use crate::setup::Setup;
 use account::line::Line;
-use market::market::Market;
 
 pub mod methods;
 
-/// Lines by reference, each with its form and its days, and a market, a curve and a netting rule.
+/// Lines by reference, each with its form and its days, and what they are margined on.
 #[derive(Drop)]
 pub struct Portfolio<'a, 'p, C, N> {
-    pub market: &'a Market<'p>,
-    pub curve: &'a C,
-    pub rule: &'a N,
+    pub setup: Setup<'a, 'p, C, N>,
     pub lines: &'a [Line],
     ghost few: { length lines.now ≤ 65535 },
-    ghost taken: { each_taken market.now.day.today lines.now ≡ true },
+    ghost taken: { each_taken setup.market.now.day.today lines.now ≡ true },
     ghost titles: { (i : Isin) (k : Kind) → titles_of i k lines.now ≤ most_titles },
 }

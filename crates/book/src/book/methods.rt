@@ -17,6 +17,7 @@ use quantities::refusal::Refusal;
 use register::register::Register;
 use valuation::margin::Statement;
 use valuation::portfolio::Portfolio;
+use valuation::setup::Setup;
 
 impl<'m, 'p, 'l> Book<'m, 'p, 'l> {
     /// A book in which no line stands, over a market and memory for lines.
@@ -68,16 +69,19 @@ impl<'m, 'p, 'l> Book<'m, 'p, 'l> {
 
     // The lines that stand, with what their margin is worked on.
     fn portfolio<'s, C, N>(&'s self, curve: &'s C, rule: &'s N) -> Portfolio<'s, 'p, C, N>
-        ensures market { result.market.now ≡ self.now.market.now }
-        ensures curve { result.curve.now ≡ curve.now }
-        ensures rule { result.rule.now ≡ rule.now }
+        ensures market { result.setup.market.now ≡ self.now.market.now }
+        ensures curve { result.setup.curve.now ≡ curve.now }
+        ensures rule { result.setup.rule.now ≡ rule.now }
         ensures lines { result.lines.now ≡ lines_of self.now }
     {
-        Portfolio {
+        let setup = Setup {
             market: &*self.market,
             curve,
             rule,
-            lines: self.lines(),
+        };
+        Portfolio {
+            setup,
+            lines: self.lines.records(),
         }
     }
 

@@ -5,7 +5,7 @@ use Rattle.book.proofs.work.Ledger.work_through.Goals as goal
 
 pub returns : goal.returns
 returns g c =
-    let t = c.args.terms.now in
+    let t = c.args.setup.now in
     let l = c.args.self.now in
     let new = c.new-book.ensures in
     let worked = worked_through (g.C.Curve.reach t.curve.now) (g.C.Curve.rate t.curve.now) (g.N.NettingRule.charged t.rule.now) t.market.now
