@@ -9,13 +9,16 @@ use std::fmt;
 /// How many bytes an ISIN has.
 pub const LENGTH: usize = 12;
 
+// A letter's byte less its number: A is 10.
+const BEFORE_LETTERS: u8 = b'A' - 10;
+
 /// Twelve bytes in the place of an ISIN.
 #[derive(Clone, Copy, Debug, PartialEq, Eq, Hash, PartialOrd, Ord)]
 pub struct Isin {
-    pub bytes: [u8; 12],
+    pub bytes: [u8; LENGTH],
 }
 
-fn is_shaped(bytes: &[u8; 12]) -> bool
+fn is_shaped(bytes: &[u8; LENGTH]) -> bool
     ensures { result ≡ isin_shaped bytes.now }
 {
     let country = bytes[..2].iter().all(u8::is_ascii_uppercase);
@@ -27,7 +30,7 @@ fn is_shaped(bytes: &[u8; 12]) -> bool
 
 // The digits of a number below 100, or of its double.
 fn weight(number: u8, doubled: bool) -> u32
-    ensures is { result ≡ (if doubled then 2 * number else number) / 10 + (if doubled then 2 * number else number) % 10 }
+    ensures is { let n = (if doubled then 2 * number else number) in result ≡ n / 10 + n % 10 }
     ensures small { result ≤ 60 }
 {
     let counted = if doubled {
@@ -38,7 +41,7 @@ fn weight(number: u8, doubled: bool) -> u32
     counted / 10 + counted % 10
 }
 
-fn check_sum(bytes: &[u8; 12]) -> u32
+fn check_sum(bytes: &[u8; LENGTH]) -> u32
     ensures { result ≡ check_sum bytes.now }
 {
     let mut sum = 0;
@@ -49,7 +52,7 @@ fn check_sum(bytes: &[u8; 12]) -> u32
             doubled = !doubled;
         } else {
             // a letter is two digits, so the next digit is doubled as this one was
-            let letter = byte.saturating_sub(55);
+            let letter = byte.saturating_sub(BEFORE_LETTERS);
             sum += weight(letter % 10, doubled) + weight(letter / 10, !doubled);
         }
     }
@@ -84,9 +87,8 @@ impl TryFrom<&[u8]> for Isin {
 
 impl fmt::Display for Isin {
     fn fmt<W: fmt::Write>(&self, f: &mut fmt::Formatter<W>) -> fmt::Result {
-        for byte in &self.bytes {
-            let symbol = char::from(*byte);
-            write!(f, "{symbol}")?;
+        for &byte in &self.bytes {
+            f.write_char(char::from(byte))?;
         }
         Ok(())
     }

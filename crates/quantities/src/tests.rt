@@ -1,10 +1,15 @@
 //! The edges of every range.
+ghost use Rattle.std.specs.Prelude.{◌≡◌};
+ghost use Rattle.quantities.specs.Checked.{told, checked};
+ghost use Rattle.quantities.specs.Ranges.{most_cash};
+
 use crate::amount::*;
 use crate::date::*;
 use crate::isin::*;
 use crate::range::*;
 use crate::refusal::*;
 use crate::tranche::*;
+use std::cmp::Ordering;
 
 #[test]
 fn ranges_end_where_they_should(rt: HostRuntime) {
@@ -22,6 +27,18 @@ fn ranges_end_where_they_should(rt: HostRuntime) {
         MarginPercentage::try_from(0).is_ok() && MarginPercentage::try_from(10_000).is_ok()
     );
     assert_eq!(rt; MarginPercentage::try_from(10_001), Err(Refusal::Value));
+}
+
+fn read_cents(cents: u64) -> Result<Cents, Refusal>
+    ensures { told (λ c. c) result ≡ checked 0 most_cash cents }
+{
+    Ok(Cash::try_from(cents)?.cents)
+}
+
+#[test]
+fn a_caller_hands_a_refusal_on(rt: HostRuntime) {
+    assert_eq!(rt; read_cents(1_000_000_000_000), Ok(1_000_000_000_000));
+    assert_eq!(rt; read_cents(1_000_000_000_001), Err(Refusal::Value));
 }
 
 #[test]
@@ -126,4 +143,13 @@ fn amounts_fit_at_the_limits(rt: HostRuntime) {
         market_value(UnitPrice { millionths: 1 }, none, Titles { count: 1 }),
         -1
     );
+}
+
+#[test]
+fn isins_go_by_their_bytes(rt: HostRuntime) -> Result<(), Refusal> {
+    let german = Isin::try_from(b"DE000BASF111".as_slice())?;
+    let american = Isin::try_from(b"US0378331005".as_slice())?;
+    assert!(rt; german < american);
+    assert_eq!(rt; american.cmp(&american), Ordering::Equal);
+    Ok(())
 }
