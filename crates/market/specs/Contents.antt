@@ -4,14 +4,14 @@ use Rattle.std.specs.Option.{option_map}
 use Rattle.quantities.specs.declared.range.MarginPercentage.{MarginPercentage}
 use Rattle.quantities.specs.Tranches.{tranche}
 use Rattle.register.specs.Keys.{found_by}
-use Rattle.market.specs.declared.day.Day.{Day}
 use Rattle.market.specs.declared.price.Price.{Price}
 use Rattle.market.specs.declared.price.Percentage.{Percentage}
 use Rattle.market.specs.Records.{percentage_rank}
 
--- its day, its prices by ISIN and its percentages by tranche, and how many prices it can hold
+-- today and the business day after it, its prices by ISIN and its percentages by tranche, and how many prices it can hold
 pub record Quotes : Type 0 where
-  pub day : Day
+  pub today : ℕ
+  pub next : ℕ
   pub prices : List Price
   pub percentages : List Percentage
   pub room : ℕ

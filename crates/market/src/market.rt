@@ -1,7 +1,8 @@
 //! A day with its prices and margin percentages, in lent memory.
-ghost use Rattle.std.specs.Prelude.{◌≡◌, [], length};
+ghost use Rattle.std.specs.Prelude.{◌≡◌, true, [], length};
 ghost use Rattle.market.specs.Changes.{AddsPrice, AddsPercentage};
 ghost use Rattle.market.specs.Contents.{percentage_for};
+ghost use Rattle.market.specs.Days.{is_next_day};
 ghost use Rattle.market.specs.Records.{isin_rank, price_rank};
 ghost use Rattle.register.specs.Contents.{room_in};
 ghost use Rattle.register.specs.Keys.{found_by};
@@ -24,14 +25,14 @@ pub struct Market<'a> {
     percentages: Register<'a, Percentage>,
 }
 
-// A clause sees the day, the prices and percentages, and how many prices there may be.
+// A clause sees the two dates, the prices and percentages, and how many prices there may be.
 impl<'a> Model for Market<'a> {
     ghost use Rattle.std.specs.Prelude.{◌≡◌};
     ghost use Rattle.market.specs.Contents.{Quotes};
 
     ghost Value = { Quotes };
 
-    ghost view = { λ m. record { day = m.day; prices = m.prices.records; percentages = m.percentages.records; room = m.prices.room } };
+    ghost view = { λ m. record { today = m.day.today; next = m.day.next; prices = m.prices.records; percentages = m.percentages.records; room = m.prices.room } };
 
     ghost invariant = { λ m. m.percentages.room ≡ 6 };
 }
@@ -39,7 +40,8 @@ impl<'a> Model for Market<'a> {
 impl<'a> Market<'a> {
     /// A day without prices and percentages, over memory for them.
     pub fn new(day: Day, prices: &'a mut [Price], percentages: &'a mut [Percentage; 6]) -> Self
-        ensures day { result.day ≡ day }
+        ensures today { result.today ≡ day.today }
+        ensures next { result.next ≡ day.next }
         ensures unpriced { result.prices ≡ [] }
         ensures unranked { result.percentages ≡ [] }
         ensures room { result.room ≡ room_in (length prices.old) }
@@ -55,14 +57,15 @@ impl<'a> Market<'a> {
 
     /// Today.
     pub fn today(&self) -> Date
-        ensures { result ≡ self.now.day.today }
+        ensures { result ≡ self.now.today }
     {
         self.day.today
     }
 
     /// The business day after today.
     pub fn next(&self) -> Date
-        ensures { result ≡ self.now.day.next }
+        ensures is { result ≡ self.now.next }
+        ensures after { is_next_day self.now.today self.now.next ≡ true }
     {
         self.day.next
     }

@@ -11,7 +11,7 @@ use Rattle.std.proofs.lemmas.Bool.Decides.{nat_tests}
 use Rattle.register.specs.Search.{Parts, Hits, Misses, Placed}
 
 -- the ranks rise between any two places
-abbrev Far : {X : Type 0} → (X → ℕ) → List X → Type 0
+abbrev pub Far : {X : Type 0} → (X → ℕ) → List X → Type 0
 Far {X} f xs = (i j : ℕ) (d : X) → i < j → j < length xs → f (get_or xs i d) < f (get_or xs j d)
 
 -- the ranks before p are lower than n, and from p on they are higher
