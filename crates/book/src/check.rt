@@ -30,7 +30,7 @@ pub fn check_form(line: &Line) -> Result<(), Refusal>
         && line.isin.is_valid()
         && titles_fit(line.block, line.titles)
         && line.cash <= Cash::MOST;
-    fits.then_some(()).ok_or(Refusal::Value)
+    if fits { Ok(()) } else { Err(Refusal::Value) }
 }
 
 /// Refuses a date outside the days of its block.

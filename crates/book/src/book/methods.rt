@@ -136,7 +136,7 @@ impl<'m, 'p, 'l> Book<'m, 'p, 'l> {
         requires { length calls.now ≤ length answers.old }
         ensures { TakesAll (C.Curve.reach curve.now) (C.Curve.rate curve.now) (N.NettingRule.charged rule.now) calls.now answers.old self.old answers.new self.new }
     {
-        // Over answers.iter_mut() the proof knows their count, and not what is written in them.
+        // Tried with zip(answers.iter_mut()): an invariant then has no name for the answers written so far.
         for (i, call) in calls.iter().enumerate() {
             answers[i] = self.take(curve, rule, *call);
         }
