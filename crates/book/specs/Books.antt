@@ -22,7 +22,7 @@ room_for b = b.lines.room
 
 -- its day
 abbrev pub today_of : Book → ℕ
-today_of b = b.market.now.day.today
+today_of b = b.market.now.today
 
 -- a book has the market and the room of another
 pub record SameFrame (b c : Book) : Type 0 where

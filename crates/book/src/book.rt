@@ -17,6 +17,6 @@ pub mod methods;
 pub struct Book<'m, 'p, 'l> {
     market: &'m Market<'p>,
     lines: Register<'l, Line>,
-    ghost taken: { each_taken market.now.day.today lines.records ≡ true },
+    ghost taken: { each_taken market.now.today lines.records ≡ true },
     ghost titles: { (i : Isin) (k : Kind) → titles_of i k lines.records ≤ most_titles },
 }

@@ -8,8 +8,8 @@ use Rattle.valuation.specs.declared.setup.Setup.{Setup}
 abbrev pub setting_with : ℕ → (ℕ → ℤ) → (ℕ → ℕ → ℕ) → Quotes → Setting
 setting_with reach rate charged m =
     record {
-      today = m.day.today;
-      next = m.day.next;
+      today = m.today;
+      next = m.next;
       prices = m.prices;
       percentages = m.percentages;
       reach = reach;

@@ -17,6 +17,6 @@ pub struct Portfolio<'a, 'p, C, N> {
     pub setup: Setup<'a, 'p, C, N>,
     pub lines: &'a [Line],
     ghost few: { length lines.now ≤ 65535 },
-    ghost taken: { each_taken setup.market.now.day.today lines.now ≡ true },
+    ghost taken: { each_taken setup.market.now.today lines.now ≡ true },
     ghost titles: { (i : Isin) (k : Kind) → titles_of i k lines.now ≤ most_titles },
 }
