@@ -48,8 +48,8 @@ initial_of charged t = initial_margin (charged (bought t) (sold t)) t.price t.pe
 
 -- the parts of a trade as quantities
 pub record Parted (t : Trade) (p : Parts) : Type 0 where
-  pub bought_titles : p.bought.count ≡ bought t
-  pub sold_titles : p.sold.count ≡ sold t
+  pub bought_titles : p.position.bought.count ≡ bought t
+  pub sold_titles : p.position.sold.count ≡ sold t
   pub cash : p.cash.cents ≡ t.cash
   pub price : p.price.millionths ≡ t.price
   pub percentage : p.percentage.basis_points ≡ t.percentage
@@ -58,7 +58,7 @@ pub record Parted (t : Trade) (p : Parts) : Type 0 where
 -- the variation margin by the parts
 abbrev pub parts_variation : Side → ℕ → Parts → ℤ
 parts_variation side term p =
-    less_cash side (market_value p.price.millionths p.bought.count p.sold.count)
+    less_cash side (market_value p.price.millionths p.position.bought.count p.position.sold.count)
     (present_up p.cash.cents p.rate.basis_points term) (present_down p.cash.cents p.rate.basis_points term)
 
 -- refused 4 where a part is outside its form or range

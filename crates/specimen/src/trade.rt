@@ -1,5 +1,6 @@
 //! One trade by itself, as it is handed.
 use account::line::Side;
+use netting::Position;
 use quantities::amount::{Cents, SignedCents};
 use quantities::date::Date;
 use quantities::isin::Isin;
@@ -26,8 +27,7 @@ pub struct Trade {
 /// The parts of a trade, each within its range.
 #[derive(Clone, Copy)]
 pub struct Parts {
-    pub bought: Titles,
-    pub sold: Titles,
+    pub position: Position,
     pub cash: Cash,
     pub price: UnitPrice,
     pub percentage: MarginPercentage,

@@ -7,7 +7,7 @@ use curve::point::Point;
 use curve::point::points::Points;
 use curve::sloping::SlopingCurve;
 use curve::step::StepCurve;
-use netting::{BothSides, Gross, Net, NettingRule};
+use netting::{BothSides, Gross, Net, NettingRule, Position};
 use quantities::amount::{initial_margin, market_value, present_value_down, present_value_up};
 use quantities::date::Date;
 use quantities::isin::Isin;
@@ -62,22 +62,24 @@ fn show_present_values(rt: &impl Print) -> io::Result<()> {
 }
 
 fn show_netting(rt: &impl Print) -> io::Result<()> {
-    let bought = Titles { count: 1_000 };
-    let sold = Titles { count: 400 };
+    let position = Position {
+        bought: Titles { count: 1_000 },
+        sold: Titles { count: 400 },
+    };
     show(
         rt,
         "1,000 bought, 400 sold, net",
-        Net.charge(bought, sold).count,
+        Net.charge(position).count,
     )?;
     show(
         rt,
         "1,000 bought, 400 sold, gross",
-        Gross.charge(bought, sold).count,
+        Gross.charge(position).count,
     )?;
     show(
         rt,
         "1,000 bought, 400 sold, both sides",
-        BothSides.charge(bought, sold).count,
+        BothSides.charge(position).count,
     )
 }
 

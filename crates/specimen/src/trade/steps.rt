@@ -4,7 +4,7 @@ ghost use Rattle.specimen.specs.Trades.{bought, sold, parts_variation, Checks, A
 
 use super::{Parts, Trade, Valuation};
 use account::line::Side;
-use netting::NettingRule;
+use netting::{NettingRule, Position};
 use quantities::amount::{
     SignedCents, initial_margin, market_value, present_value_down, present_value_up,
 };
@@ -19,7 +19,7 @@ impl Parts {
         ensures low { negsuc 2999999999999 ≤ℤ result }
         ensures high { result ≤ℤ pos 3000000000000 }
     {
-        let value = market_value(self.price, self.bought, self.sold);
+        let value = market_value(self.price, self.position.bought, self.position.sold);
         match side {
             Side::Bought => value - present_value_up(self.cash, self.rate, term) as i64,
             Side::Sold => value + present_value_down(self.cash, self.rate, term) as i64,
@@ -28,15 +28,16 @@ impl Parts {
 }
 
 impl Trade {
-    // The titles bought and sold, of which one side has none.
-    fn sides(&self, titles: Titles) -> (Titles, Titles)
-        ensures bought { titles.count ≡ self.now.titles → result.0.count ≡ bought self.now }
-        ensures sold { titles.count ≡ self.now.titles → result.1.count ≡ sold self.now }
+    // The titles on their side, and none on the other.
+    fn position(&self, titles: Titles) -> Position
+        ensures bought { titles.count ≡ self.now.titles → result.bought.count ≡ bought self.now }
+        ensures sold { titles.count ≡ self.now.titles → result.sold.count ≡ sold self.now }
     {
-        match self.side {
+        let (bought, sold) = match self.side {
             Side::Bought => (titles, Titles { count: 0 }),
             Side::Sold => (Titles { count: 0 }, titles),
-        }
+        };
+        Position { bought, sold }
     }
 
     fn parts(&self) -> Result<Parts, Refusal>
@@ -46,14 +47,13 @@ impl Trade {
             return Err(Refusal::Value);
         }
         let titles = Titles::try_from(self.titles)?;
-        let (bought, sold) = self.sides(titles);
+        let position = self.position(titles);
         let cash = Cash::try_from(self.cash)?;
         let price = UnitPrice::try_from(self.price)?;
         let percentage = MarginPercentage::try_from(self.percentage)?;
         let rate = Rate::try_from(self.rate)?;
         Ok(Parts {
-            bought,
-            sold,
+            position,
             cash,
             price,
             percentage,
@@ -67,7 +67,7 @@ impl Trade {
     {
         let parts = self.parts()?;
         let term = Term::of_trade(self.today, self.settlement)?;
-        let charged = rule.charge(parts.bought, parts.sold);
+        let charged = rule.charge(parts.position);
         let initial = initial_margin(charged, parts.price, parts.percentage);
         let variation = parts.variation_margin(self.side, term);
         Ok(Valuation {
@@ -77,7 +77,7 @@ impl Trade {
             present_value_down: present_value_down(parts.cash, parts.rate, term),
             charged,
             initial_margin: initial,
-            market_value: market_value(parts.price, parts.bought, parts.sold),
+            market_value: market_value(parts.price, parts.position.bought, parts.position.sold),
             variation_margin: variation,
             charge: initial as i64 - variation,
         })

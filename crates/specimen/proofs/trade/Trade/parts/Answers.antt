@@ -37,4 +37,4 @@ returns c =
     let p = accepted _ _ _ _ c.in_ok-price.ensures in
     let f = accepted _ _ _ _ c.in_ok-percentage.ensures in
     let r = accepted _ _ _ _ c.in_ok-rate.ensures in
-    (grind (arith, nat_tests), record { bought_titles = c.sides.ensures.bought t.1; sold_titles = c.sides.ensures.sold t.1; cash = m.1; price = p.1; percentage = f.1; rate = omega (arith, ints) })
+    (grind (arith, nat_tests), record { bought_titles = c.position-position.ensures.bought t.1; sold_titles = c.position-position.ensures.sold t.1; cash = m.1; price = p.1; percentage = f.1; rate = omega (arith, ints) })
