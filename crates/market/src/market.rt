@@ -1,11 +1,11 @@
 //! A day with its prices and margin percentages, in lent memory.
-ghost use Rattle.std.specs.Prelude.{◌≡◌, true, [], length};
+ghost use Rattle.std.specs.Prelude.{◌≡◌, ◌≤◌, true, [], length};
 ghost use Rattle.market.specs.Changes.{AddsPrice, AddsPercentage};
 ghost use Rattle.market.specs.Contents.{percentage_for};
 ghost use Rattle.market.specs.Days.{is_next_day};
-ghost use Rattle.market.specs.Records.{isin_rank, price_rank};
+ghost use Rattle.market.specs.Records.{isin_rank, price_rank, percentage_rank};
 ghost use Rattle.register.specs.Contents.{room_in};
-ghost use Rattle.register.specs.Keys.{found_by};
+ghost use Rattle.register.specs.Keys.{Ascends, found_by};
 
 use crate::day::Day;
 use crate::price::{Percentage, Price};
@@ -72,14 +72,19 @@ impl<'a> Market<'a> {
 
     /// The prices by ISIN.
     pub fn prices(&self) -> &[Price]
-        ensures { result.now ≡ self.now.prices }
+        ensures all { result.now ≡ self.now.prices }
+        ensures ascends { Ascends price_rank self.now.prices }
+        ensures within { length self.now.prices ≤ self.now.room }
+        ensures few { self.now.room ≤ 65535 }
     {
         self.prices.records()
     }
 
     /// The percentages by tranche.
     pub fn percentages(&self) -> &[Percentage]
-        ensures { result.now ≡ self.now.percentages }
+        ensures all { result.now ≡ self.now.percentages }
+        ensures ascends { Ascends percentage_rank self.now.percentages }
+        ensures few { length self.now.percentages ≤ 6 }
     {
         self.percentages.records()
     }

@@ -1,5 +1,5 @@
 //! Points by term, in lent memory.
-ghost use Rattle.std.specs.Prelude.{◌≡◌, min, [], length};
+ghost use Rattle.std.specs.Prelude.{◌≡◌, ◌≤◌, min, [], length};
 ghost use Rattle.register.specs.Keys.{Ascends, below_rank, from_rank};
 ghost use Rattle.curve.specs.Points.{Adds};
 
@@ -43,6 +43,8 @@ impl<'a> Points<'a> {
     pub fn records(&self) -> &[Point]
         ensures all { result.now ≡ self.now.records }
         ensures ascends { Ascends (λ p. p.term) self.now.records }
+        ensures within { length self.now.records ≤ self.now.room }
+        ensures few { self.now.room ≤ 65535 }
     {
         self.list.records()
     }

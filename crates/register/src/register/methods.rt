@@ -15,7 +15,8 @@ impl<'a, R: Record> Register<'a, R> {
     pub fn records(&self) -> &[R]
         ensures all { result.now ≡ self.now.records }
         ensures ascends { Ascends (by R.Key.Key.rank R.Record.key_of) self.now.records }
-        ensures few { length self.now.records ≤ 65535 }
+        ensures within { length self.now.records ≤ self.now.room }
+        ensures few { self.now.room ≤ 65535 }
     {
         &self.places[..self.used]
     }
