@@ -53,10 +53,7 @@ fn known_quote<B: Basis>(basis: &B, isin: Isin) -> Quote
     requires ranked { has_percentage (B.setting basis.now) isin ≡ true }
     ensures { Ok (numbers result) ≡ quote_answer (B.setting basis.now) isin }
 {
-    match basis.quote_of(isin) {
-        Ok(quote) => quote,
-        Err(_) => unreachable(),
-    }
+    basis.quote_of(isin).unwrap()
 }
 
 impl<'a, B: Basis> ReadyLines<'a, B> {
