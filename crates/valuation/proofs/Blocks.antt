@@ -9,7 +9,6 @@ use Rattle.account.specs.Lines.{failed, held, of, keep, any}
 use Rattle.account.specs.Settings.{Setting}
 use Rattle.account.specs.Rows.{row, block_row, if_any}
 use Rattle.valuation.specs.declared.block.BlockKind.{BlockKind}
-use Rattle.valuation.specs.Charged.{Within}
 use Rattle.valuation.specs.Kinds.{kind_of}
 use Rattle.valuation.specs.Scopes.{lines_in}
 use Rattle.valuation.proofs.Scopes.{lines_failed, lines_held}
@@ -47,6 +46,3 @@ held_is s i ls e = e ∙ ap (row s both_sides i HeldLines) (lines_held s i ls)
 
 pub block_is : (s : Setting) (i : Isin) (ls : List Line) {r : Row} {a b : BlockKind} → a ≡ b → r ≡ block_row s i (kind_of a) (keep (of i (kind_of a)) ls) → r ≡ block_row s i (kind_of b) (keep (of i (kind_of b)) ls)
 block_is s i ls {r} e h = subst (λ k. r ≡ block_row s i (kind_of k) (keep (of i (kind_of k)) ls)) e h
-
-pub block_within : (i : Isin) (ls : List Line) {r : Row} {a b : BlockKind} → a ≡ b → Within (length (keep (of i (kind_of a)) ls)) r → Within (length (keep (of i (kind_of b)) ls)) r
-block_within i ls {r} e h = subst (λ k. Within (length (keep (of i (kind_of k)) ls)) r) e h

@@ -1,6 +1,5 @@
 -- The row of cash-only lines: their cash is not discounted.
-use Rattle.std.proofs.Common.{◌≡◌, ℕ, ◌+◌, ◌-◌, ◌*◌, ◌≤◌, Bool, true, false, cond, List, [], ◌∷◌, length, pos, refl, ap, ◌∙◌, ap₂, arith}
-use Rattle.std.proofs.lemmas.Int.{ints}
+use Rattle.std.proofs.Common.{◌≡◌, ℕ, ◌+◌, ◌-◌, Bool, true, false, cond, List, [], ◌∷◌, pos, refl, ap, ◌∙◌, ap₂}
 use Rattle.std.proofs.lemmas.Bool.{and_parts, cond-false}
 use Rattle.quantities.specs.declared.isin.Isin.{Isin}
 use Rattle.account.specs.declared.line.Block.{Block}
@@ -12,9 +11,8 @@ use Rattle.account.specs.Lines.{trade, cash_only, kind, same_kind, is_trade, if_
 use Rattle.account.specs.Settings.{Setting}
 use Rattle.account.specs.Charges.{cash_up, cash_down, cash_charged, cash_credited}
 use Rattle.account.specs.Rows.{cash_row}
-use Rattle.valuation.specs.Charged.{Within}
 use Rattle.valuation.specs.Scopes.{lines_in}
-use Rattle.valuation.proofs.Scopes.{lines_fewer, lines_cash}
+use Rattle.valuation.proofs.Scopes.{lines_cash}
 
 no_trade : (b : Block) → same_kind (kind b) cash_only ≡ true → same_kind (kind b) trade ≡ false
 no_trade (Trade d) e = cc
@@ -43,8 +41,3 @@ module _ (s : Setting) (i : Isin) (ls : List Line) (n up down : ℕ) (is : n ≡
       (is ∙ ap₂ ◌-◌ eu ed ∙ ap (λ ms. cash_charged s ms - cash_credited s ms) (lines_cash s i ls)
       ∙ ap₂ ◌-◌ (same_sum (λ l. if_bought l.side (cash_up s l)) (λ l. if_bought l.side l.cash) (of i cash_only) (λ l h. ap (if_bought l.side) (plain s i l h).0) ls)
       (same_sum (λ l. if_sold l.side (cash_down s l)) (λ l. if_sold l.side l.cash) (of i cash_only) (λ l h. ap (if_sold l.side) (plain s i l h).1) ls))
-
-  pub cash_row_within : up ≤ 2000000000000 * length (lines_in s i CashOnlyLines ls) → Within (length (keep (of i cash_only) ls)) made
-  cash_row_within h =
-      let few = lines_fewer s i CashOnlyLines ls in
-      record { initial = omega arith; low = omega (arith, ints); high = omega (arith, ints) }

@@ -1,17 +1,33 @@
 -- The first ISIN that passes a test, with one more ISIN.
-use Rattle.std.proofs.Common.{◌≡◌, ℕ, ◌<◌, ◌≤◌, Bool, true, false, cond, ltb, List, [], ◌∷◌, Some, None, Option, sym, refl, ap, ◌∙◌, subst, ⊎_elim, arith}
+use Rattle.std.proofs.Common.{◌≡◌, ℕ, ◌<◌, ◌≤◌, Bool, true, false, cond, ltb, List, [], ◌∷◌, map, Some, None, Option, sym, refl, ap, ◌∙◌, subst, ⊎_elim, arith}
 use Rattle.std.proofs.ByRecursion.{All-weaker}
 use Rattle.std.proofs.lemmas.Bool.{cond_both, cond-true, cond-false, lt-ltb, le-ltb, ltb-true, ltb-false, or_cases, both_ways, false≢true}
-use Rattle.std.specs.List.{fold, filter}
+use Rattle.std.specs.declared.cmp.Ordering.{Ordering}
+use Rattle.std.specs.declared.cmp.Ordering.TheVariants.{Less, Equal, Greater}
+use Rattle.std.specs.Ordering.{min_by_ordering}
+use Rattle.std.specs.Fn.{CalledAtTwo}
+use denote.Param.Members.{Mut}
+use denote.Ref.{Bor}
+use Rattle.std.specs.Iterator.{Drains, PickTurn, PicksByCall}
+use Rattle.std.proofs.lemmas.List.{map-id}
+use Rattle.std.proofs.lemmas.Iterator.{YieldsList, items_from_drains}
+use Rattle.std.specs.List.{FoldsTo, filter}
+use Rattle.register.specs.Bytes.{value}
 use Rattle.std.proofs.lemmas.Bool.Decides.{nat_tests}
 use Rattle.quantities.specs.declared.isin.Isin.{Isin}
-use Rattle.register.specs.Keys.{inserted_by}
+use Rattle.register.specs.Keys.{Compares, inserted_by}
 use Rattle.market.specs.Records.{isin_rank}
 use Rattle.account.specs.declared.line.Line.{Line}
 use Rattle.account.specs.Lines.{keep, has_isin, with_isin, isins, TwelveBytes}
 use Rattle.account.proofs.Terms.{same_isin_decides}
-use Rattle.valuation.specs.Walk.{comes_after, later_isins, first_isin, earlier}
+use Rattle.valuation.specs.Walk.{comes_after, later_isins, first_isin}
 use Rattle.valuation.proofs.Rising.{Above, Rises, rising}
+
+-- the earlier of two ISINs, where there are two
+abbrev earlier : Option Isin → Option Isin → Option Isin
+earlier None other = other
+earlier (Some i) None = Some i
+earlier (Some i) (Some j) = Some (cond (ltb (isin_rank i) (isin_rank j)) i j)
 
 -- an ISIN where it passes
 abbrev if_passes : (Isin → Bool) → Isin → Option Isin
@@ -79,29 +95,43 @@ earlier_of_three (Some i) None c = refl
 earlier_of_three (Some i) (Some j) None = refl
 earlier_of_three (Some i) (Some j) (Some k) = grind (arith, nat_tests)
 
--- ---- the first of lines, by the words of the library
--- the earlier of the best so far and the ISIN of a line
-abbrev pub better : Option Isin → Line → Option Isin
-better best l = earlier best (Some l.isin)
+-- ---- the least of ISINs, by the words of the library
+abbrev earliest : List Isin → Option Isin
+earliest [] = None
+earliest (i ∷ is) = earlier (Some i) (earliest is)
 
-pub earlier_none : (a : Option Isin) → earlier a None ≡ a
-earlier_none None = refl
-earlier_none (Some i) = refl
+given : {S : Type 0} {steps : S → Option Isin → S → Type 0} {s : S} {all : List Isin} (xs : List Isin) → Drains steps s xs → YieldsList steps (λ i. i) s all → xs ≡ all
+given xs (u, (t, gives, last)) chain = sym (map-id xs) ∙ items_from_drains xs (t, gives, λ _. (u, last)) chain
 
-from_best : (after best : Option Isin) (ls : List Line) → TwelveBytes ls → fold better best (filter (λ l. comes_after after l.isin) ls) ≡ earlier best (first_isin (later_isins after ls))
-from_best after best [] b = sym (earlier_none best)
-from_best after best (l ∷ ls) b =
-    go (comes_after after l.isin) (from_best after (better best l) ls b.1) (from_best after best ls b.1)
-    ∙ sym (earlier_of_three best (if_passes (comes_after after) l.isin) (first_isin (later_isins after ls)))
-    ∙ ap (earlier best) (sym (first_with (comes_after after) l.isin (isins ls) (rising ls b.1)))
+turned : (a b : Isin) (o : Ordering) → Compares (value 0) a.bytes b.bytes o → Some (min_by_ordering o a b) ≡ earlier (Some a) (Some b)
+turned a b Less h = ap (λ k. Some k) (sym (cond-true _ a b (lt-ltb _ _ h)))
+turned a b Equal h = ap (λ k. Some k) (cond_both (ltb (isin_rank a) (isin_rank b)) a b (λ k. a ≡ k) (λ _. refl) (λ _. ap (λ bs. record { bytes = bs }) h))
+turned a b Greater h = ap (λ k. Some k) (sym (cond-false _ a b (le-ltb _ _ (omega (arith, h)))))
+
+module _ {F : Type 0} (g : Mut F (Bor Isin × (Bor Isin × Unit {0})) Ordering) (f : F) (answers : (a b : Isin) (o : Ordering) (q : F) → CalledAtTwo g f a b o q → (q ≡ f) × Compares (value 0) a.bytes b.bytes o) where
+  least : (p q : F × Isin) (xs : List Isin) → p.0 ≡ f → FoldsTo {P = F × Isin} (PickTurn min_by_ordering g) p xs q → Some q.1 ≡ earlier (Some p.1) (earliest xs)
+  least p q [] e h = ap (λ r. Some r.1) (sym h)
+  least p q (x ∷ xs) e (j, (o, called, picks), rest) =
+      let r = answers p.1 x o j.0 (subst (λ z. CalledAtTwo g z p.1 x o j.0) e called) in
+      least j q xs r.0 rest
+      ∙ ap (λ o. earlier o (earliest xs)) (ap (λ k. Some k) picks ∙ turned p.1 x o r.1)
+      ∙ sym (earlier_of_three (Some p.1) (Some x) (earliest xs))
+
+  pub least_is : {S : Type 0} {steps : S → Option Isin → S → Type 0} {s : S} {all : List Isin} (r : Option Isin) → PicksByCall steps min_by_ordering g s f r → YieldsList steps (λ i. i) s all → r ≡ earliest all
+  least_is None d chain = ap earliest (given [] d chain)
+  least_is (Some y) (x, xs, q, d, turns) chain = least (f, x) (q, y) xs refl turns ∙ ap earliest (given (x ∷ xs) d chain)
+
+-- ---- and the first of lines is that
+earliest_passing : (p : Isin → Bool) (i : Isin) (is : List Isin) → earliest (filter p (i ∷ is)) ≡ earlier (if_passes p i) (earliest (filter p is))
+earliest_passing p i is = go (p i)
   where
-    kept : List Line
-    kept = filter (λ l. comes_after after l.isin) ls
+    go : (b : Bool) → earliest (cond b (i ∷ filter p is) (filter p is)) ≡ earlier (cond b (Some i) None) (earliest (filter p is))
+    go true = refl
+    go false = refl
 
-    go : (t : Bool) → fold better (better best l) kept ≡ earlier (better best l) (first_isin (later_isins after ls)) → fold better best kept ≡ earlier best (first_isin (later_isins after ls)) →
-        fold better best (cond t (l ∷ kept) kept) ≡ earlier (earlier best (cond t (Some l.isin) None)) (first_isin (later_isins after ls))
-    go true e d = e
-    go false e d = d ∙ ap (λ o. earlier o (first_isin (later_isins after ls))) (sym (earlier_none best))
-
-pub next_is : (after : Option Isin) (ls : List Line) → TwelveBytes ls → fold better None (filter (λ l. comes_after after l.isin) ls) ≡ first_isin (later_isins after ls)
-next_is after ls b = from_best after None ls b
+pub earliest_is : (after : Option Isin) (ls : List Line) → TwelveBytes ls → earliest (filter (comes_after after) (map (λ l. l.isin) ls)) ≡ first_isin (later_isins after ls)
+earliest_is after [] b = refl
+earliest_is after (l ∷ ls) b =
+    earliest_passing (comes_after after) l.isin (map (λ l. l.isin) ls)
+    ∙ ap (earlier (if_passes (comes_after after) l.isin)) (earliest_is after ls b.1)
+    ∙ sym (first_with (comes_after after) l.isin (isins ls) (rising ls b.1))

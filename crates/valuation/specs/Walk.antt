@@ -1,5 +1,5 @@
 -- The ISINs of lines, one after another in byte order.
-use Rattle.std.specs.Prelude.{Bool, true, cond, List, [], ◌∷◌, Some, None, Option, nat_lt}
+use Rattle.std.specs.Prelude.{Bool, true, List, [], ◌∷◌, Some, None, Option, nat_lt}
 use Rattle.quantities.specs.declared.isin.Isin.{Isin}
 use Rattle.market.specs.Records.{isin_rank}
 use Rattle.account.specs.declared.line.Line.{Line}
@@ -18,9 +18,3 @@ later_isins after ls = keep (comes_after after) (isins ls)
 abbrev pub first_isin : List Isin → Option Isin
 first_isin [] = None
 first_isin (i ∷ is) = Some i
-
--- the earlier of two ISINs, where there are two
-abbrev pub earlier : Option Isin → Option Isin → Option Isin
-earlier None other = other
-earlier (Some i) None = Some i
-earlier (Some i) (Some j) = Some (cond (nat_lt (isin_rank i) (isin_rank j)) i j)

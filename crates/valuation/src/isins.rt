@@ -1,7 +1,7 @@
 //! The ISINs of lines, one after another in byte order.
-ghost use Rattle.std.specs.Prelude.{◌≡◌, Some};
+ghost use Rattle.std.specs.Prelude.{◌≡◌};
 ghost use Rattle.account.specs.Lines.{TwelveBytes};
-ghost use Rattle.valuation.specs.Walk.{comes_after, later_isins, earlier, first_isin};
+ghost use Rattle.valuation.specs.Walk.{comes_after, later_isins, first_isin};
 
 use account::line::Line;
 use quantities::isin::Isin;
@@ -14,22 +14,6 @@ fn comes_after(after: Option<Isin>, isin: Isin) -> bool
     after.is_none_or(|last| byte_order(&last.bytes, &isin.bytes).is_lt())
 }
 
-// The earlier of the best so far and an ISIN.
-fn better(best: Option<Isin>, isin: Isin) -> Isin
-    ensures { Some result ≡ earlier best (Some isin) }
-{
-    match best {
-        None => isin,
-        Some(other) => {
-            if byte_order(&other.bytes, &isin.bytes).is_lt() {
-                other
-            } else {
-                isin
-            }
-        }
-    }
-}
-
 /// The first ISIN of lines that comes after one, in byte order.
 pub(crate) fn next_isin(lines: &[Line], after: Option<Isin>) -> Option<Isin>
     requires { TwelveBytes lines.now }
@@ -37,6 +21,7 @@ pub(crate) fn next_isin(lines: &[Line], after: Option<Isin>) -> Option<Isin>
 {
     lines
         .iter()
-        .filter(|line| comes_after(after, line.isin))
-        .fold(None, |best, line| Some(better(best, line.isin)))
+        .map(|line| line.isin)
+        .filter(|isin| comes_after(after, *isin))
+        .min_by(|a, b| byte_order(&a.bytes, &b.bytes))
 }

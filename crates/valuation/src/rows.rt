@@ -1,8 +1,7 @@
 //! The rows of an ISIN: what its lines are charged, block by block.
-ghost use Rattle.std.specs.Prelude.{◌≡◌, ◌≤◌, true, length, Ok};
-ghost use Rattle.account.specs.Lines.{trade, cash_only, of, keep};
+ghost use Rattle.std.specs.Prelude.{◌≡◌, ◌≤◌, false, length, Ok};
+ghost use Rattle.account.specs.Lines.{trade, cash_only, same_kind, of, keep};
 ghost use Rattle.account.specs.Rows.{block_of, charge, row, worse, worst, cash_row, block_row, block_rows};
-ghost use Rattle.account.specs.Settings.{has_price, has_percentage};
 ghost use Rattle.std.specs.Option.{option_to_list};
 ghost use Rattle.valuation.specs.Charged.{rule_in, Within, EachWithin};
 ghost use Rattle.valuation.specs.Kinds.{kind_of};
@@ -47,19 +46,16 @@ fn worse_of(a: Row, b: Row) -> Row
     if charge_of(a) < charge_of(b) { b } else { a }
 }
 
-// The quote of an ISIN that has one.
-fn known_quote<B: Basis>(basis: &B, isin: Isin) -> Quote
-    requires priced { has_price (B.setting basis.now) isin ≡ true }
-    requires ranked { has_percentage (B.setting basis.now) isin ≡ true }
-    ensures { Ok (numbers result) ≡ quote_answer (B.setting basis.now) isin }
-{
-    match basis.quote_of(isin) {
-        Ok(quote) => quote,
-        Err(_) => unreachable(),
-    }
-}
-
 impl<'a, B: Basis> ReadyLines<'a, B> {
+    // The quote of an ISIN that has lines in a block of titles.
+    fn quote_in(&self, isin: Isin, kind: BlockKind) -> Quote
+        requires titled { same_kind (kind_of kind) cash_only ≡ false }
+        requires some { 1 ≤ length (keep (of isin (kind_of kind)) self.now.lines.now) }
+        ensures { Ok (numbers result) ≡ quote_answer (B.setting self.now.basis.now) isin }
+    {
+        self.basis.quote_of(isin).unwrap()
+    }
+
     // A row, where its block has lines.
     fn row_in(&self, key: RowKey, quote: Quote) -> Row
         requires quoted { Ok (numbers quote) ≡ quote_answer (B.setting self.now.basis.now) key.isin }
@@ -126,16 +122,16 @@ impl<'a, B: Basis> ReadyLines<'a, B> {
     {
         match kind {
             BlockKind::Trades => {
-                let quote = known_quote(self.basis, isin);
+                let quote = self.quote_in(isin, kind);
                 self.trades_row(isin, quote)
             }
             BlockKind::Failed => {
-                let quote = known_quote(self.basis, isin);
+                let quote = self.quote_in(isin, kind);
                 let scope = Scope::FailedLines;
                 self.row_in(RowKey { isin, scope }, quote)
             }
             BlockKind::Held => {
-                let quote = known_quote(self.basis, isin);
+                let quote = self.quote_in(isin, kind);
                 let scope = Scope::HeldLines;
                 self.row_in(RowKey { isin, scope }, quote)
             }

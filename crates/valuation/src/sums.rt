@@ -51,12 +51,10 @@ fn cash_of<B: Basis>(basis: &B, line: Line) -> Cents
     let term = Term {
         days: term_days(basis.today(), date),
     };
-    match basis.rate_for(term.days) {
-        Ok(rate) => match line.side {
-            Side::Bought => present_value_up(cash, rate, term),
-            Side::Sold => present_value_down(cash, rate, term),
-        },
-        Err(_) => unreachable(),
+    let rate = basis.rate_for(term.days).unwrap();
+    match line.side {
+        Side::Bought => present_value_up(cash, rate, term),
+        Side::Sold => present_value_down(cash, rate, term),
     }
 }
 
