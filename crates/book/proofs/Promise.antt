@@ -1,5 +1,5 @@
 -- A list of calls that is worked through keeps what is promised.
-use Rattle.std.proofs.Common.{◌≡◌, ℕ, ◌<◌, ◌≤◌, List, [], length, ℤ, sym, refl, ap, ◌∙◌, subst, ap₂, ⊎_elim, arith}
+use Rattle.std.proofs.Common.{◌≡◌, ℕ, ◌≤◌, List, [], length, ℤ, sym, ap, ◌∙◌, subst, ap₂, ⊎_elim, arith}
 use Rattle.std.proofs.lemmas.Bool.{cases_lt}
 use Rattle.netting.specs.Rules.{Netting}
 use Rattle.curve.specs.Curves.{Discounting}
@@ -7,7 +7,7 @@ use Rattle.market.specs.declared.market.Market.{Market}
 use Rattle.account.specs.declared.line.Line.{Line}
 use Rattle.account.specs.declared.call.Call.{Call}
 use Rattle.account.specs.Settings.{Setting}
-use Rattle.account.specs.Calls.{Answered, Answer, refused, given, Event, standing_from, standing, events}
+use Rattle.account.specs.Calls.{Answered, Answer, given, Event, standing_from, standing, events}
 use Rattle.account.specs.Answers.{margin_answer, EachDue}
 use Rattle.account.specs.History.{Kept, room_in, WorkedThrough, JointKept}
 use Rattle.account.proofs.Answered.{joint_law}
@@ -17,9 +17,6 @@ use Rattle.book.specs.declared.book.Book.{Book}
 use Rattle.book.specs.declared.work.Ledger.{Ledger}
 use Rattle.book.specs.Ledgers.{events_of, Works}
 use Rattle.book.specs.Books.{lines_of, room_for, setting_for, TakesAll}
-
-pub too_short : (s : Setting) (calls : List Call) (answers : List Answered) (places : List Line) → length answers < length calls → WorkedThrough s calls answers answers places places (refused 14 0)
-too_short s calls answers places l = record { too_few = λ k. (refl, refl, refl); kept = λ k. absurd (omega arith) }
 
 -- ---- a book without lines that takes the calls, and is then asked its margin
 module _ (reach : ℕ) (rate : ℕ → ℤ) (charged : ℕ → ℕ → ℕ) (m : Market) (book worked : Book) (calls : List Call) (before after : List Answered) (places places_after : List Line) (last : Answer) where
