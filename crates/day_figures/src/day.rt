@@ -2,7 +2,6 @@
 use account::call::{Answer, Call, LineRefusal, Margin, Reply};
 use account::line::{Block, Line, Side};
 use book::work::{Ledger, work_three_books};
-use valuation::setup::Setup;
 use curve::point::Point;
 use curve::point::points::Points;
 use curve::step::StepCurve;
@@ -13,8 +12,10 @@ use netting::Net;
 use quantities::date::Date;
 use quantities::isin::Isin;
 use quantities::range::Rate;
+use quantities::refusal::Refusal;
 use specimen::report::show_refusal;
 use std::io;
+use valuation::setup::Setup;
 
 const TODAY: Date = 9_000;
 
@@ -163,20 +164,30 @@ fn work_on(rt: &impl Print, market: &Market<'_>, points: &Points<'_>) -> io::Res
     show_margin(rt, "both together", margins.third)
 }
 
-/// Prints each call of the day with its answer, then the margins.
-pub fn show_day(rt: &impl Print) -> io::Result<()> {
-    let Ok(day) = Day::new(TODAY, TODAY + 1) else {
-        return Ok(());
-    };
+fn fill(market: &mut Market<'_>, points: &mut Points<'_>) -> Result<(), Refusal> {
+    market.add_price(LONG_BOND, 1_010_000, 11_000)?;
+    market.add_price(SHORT_BOND, 999_999, 9_100)?;
+    market.add_percentage(1, 50)?;
+    market.add_percentage(4, 200)?;
+    points.add(364, 360)
+}
+
+fn work_day(rt: &impl Print, day: Day) -> io::Result<()> {
     let mut prices = [Price::default(); 2];
     let mut percentages = [Percentage::default(); 6];
     let mut market = Market::new(day, &mut prices, &mut percentages);
-    let _ = market.add_price(LONG_BOND, 1_010_000, 11_000);
-    let _ = market.add_price(SHORT_BOND, 999_999, 9_100);
-    let _ = market.add_percentage(1, 50);
-    let _ = market.add_percentage(4, 200);
     let mut places = [Point::new(0, Rate { basis_points: 0 }); 1];
     let mut points = Points::new(&mut places);
-    let _ = points.add(364, 360);
-    work_on(rt, &market, &points)
+    match fill(&mut market, &mut points) {
+        Ok(()) => work_on(rt, &market, &points),
+        Err(refusal) => show_refusal(rt, "market", refusal),
+    }
+}
+
+/// Prints each call of the day with its answer, then the margins.
+pub fn show_day(rt: &impl Print) -> io::Result<()> {
+    match Day::new(TODAY, TODAY + 1) {
+        Ok(day) => work_day(rt, day),
+        Err(refusal) => show_refusal(rt, "day", refusal),
+    }
 }

@@ -7,11 +7,8 @@ use std::io;
 use std::io::{BufRead, BufReader};
 
 fn read_lines(rt: &HostRuntime) -> io::Result<Vec<String>> {
-    let mut lines = Vec::new(rt.alloc());
-    for line in BufReader::new(rt.alloc(), rt.stdin())?.lines(rt.alloc()) {
-        lines.push(line?)?;
-    }
-    Ok(lines)
+    let input = BufReader::new(rt.alloc(), rt.stdin())?;
+    input.lines(rt.alloc()).try_collect(rt.alloc())
 }
 
 fn show_trade(rt: &impl Print, trade: &Trade, mode: Mode) -> io::Result<()> {

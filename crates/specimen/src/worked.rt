@@ -12,6 +12,7 @@ use quantities::amount::{initial_margin, market_value, present_value_down, prese
 use quantities::date::Date;
 use quantities::isin::Isin;
 use quantities::range::{Cash, MarginPercentage, Rate, Term, Titles, UnitPrice};
+use quantities::refusal::Refusal;
 use quantities::tranche::Tranche;
 use std::io;
 
@@ -136,13 +137,14 @@ fn show_rate(rt: &impl Print, name: &str, curve: &impl Curve, term: u16) -> io::
     }
 }
 
-fn show_curves(rt: &impl Print) -> io::Result<()> {
-    let mut places = [Point::new(0, Rate { basis_points: 0 }); 2];
-    let mut points = Points::new(&mut places);
-    let _ = points.add(10, 100);
-    let _ = points.add(20, 95);
-    let sloping = SlopingCurve { points: &points };
-    let step = StepCurve { points: &points };
+fn add_points(points: &mut Points<'_>) -> Result<(), Refusal> {
+    points.add(10, 100)?;
+    points.add(20, 95)
+}
+
+fn show_rates(rt: &impl Print, points: &Points<'_>) -> io::Result<()> {
+    let sloping = SlopingCurve { points };
+    let step = StepCurve { points };
     show_rate(
         rt,
         "points (10, 100), (20, 95) at 13, sloping",
@@ -151,6 +153,15 @@ fn show_curves(rt: &impl Print) -> io::Result<()> {
     )?;
     show_rate(rt, "points (10, 100), (20, 95) at 13, step", &step, 13)?;
     show_rate(rt, "points (10, 100), (20, 95) at 21", &step, 21)
+}
+
+fn show_curves(rt: &impl Print) -> io::Result<()> {
+    let mut places = [Point::new(0, Rate { basis_points: 0 }); 2];
+    let mut points = Points::new(&mut places);
+    match add_points(&mut points) {
+        Ok(()) => show_rates(rt, &points),
+        Err(refusal) => show_refusal(rt, "points", refusal),
+    }
 }
 
 /// Prints every worked figure as the code works it out.
