@@ -1,13 +1,10 @@
 -- Records that ascend: what a search shows, and what stays so after a change.
-use Rattle.std.proofs.Common.{◌≡◌, ℕ, zero, suc, ◌+◌, ◌-◌, ◌<◌, ◌≤◌, true, false, List, [], ◌∷◌, length, get_or, Some, None, Ok, Err, Result, sym, refl, ap, ◌∙◌, ⊎_elim, arith}
-use Rattle.std.proofs.lemmas.Bool.{cases_lt, cases_eq, lt-ltb, le-ltb, eq-eqb, ne_eqb}
+use Rattle.std.proofs.Common.{◌≡◌, ℕ, zero, suc, ◌+◌, ◌-◌, ◌<◌, ◌≤◌, true, false, ltb, List, [], ◌∷◌, length, get_or, Some, None, Ok, Err, sym, refl, ap, ◌∙◌, ⊎_elim, arith}
+use Rattle.std.proofs.lemmas.Bool.{cases_lt, cases_eq, lt-ltb, le-ltb, ltb-true, ltb-false, eq-eqb, ne_eqb}
 use Rattle.std.specs.List.{insert, remove}
 use Rattle.std.proofs.lemmas.List.Edits.{length-insert, get_or-insert_below, get_or-insert_at, get_or-insert_above, length-remove, get_or-remove_below, get_or-remove_above}
 use Rattle.register.specs.Keys.{found_by, has_rank, inserted_by, without, Ascends}
-use Rattle.std.specs.List.Sorted.{IsSearchInRange, IsBinarySearchResult, IsNonDecreasingBy}
-use Rattle.std.specs.Ordering.{nat_cmp, ordering_index}
-use Rattle.std.proofs.lemmas.Cmp.{ranked}
-use Rattle.std.proofs.lemmas.Bool.Decides.{nat_tests}
+use Rattle.std.specs.List.Sorted.{IsPartitionedBy, IsPartitionPoint}
 use Rattle.register.specs.Search.{Parts, Hits, Misses, Placed}
 
 -- the ranks rise between any two places
@@ -218,20 +215,28 @@ module _ {X : Type 0} (f : X → ℕ) where
         parts = parted n xs p le h.below (λ k d m o. let q = h.above k d m o in omega arith);
       }
 
-  -- the comparisons with n rise along the records, as a binary search asks
-  comparisons_rise : (n : ℕ) (xs : List X) → Ascends f xs → IsNonDecreasingBy (λ x. ordering_index (nat_cmp (f x) n)) xs
-  comparisons_rise n xs up i j d l m =
-      ⊎_elim (λ (e : i ≡ j). rw e (omega arith))
-      (λ ne. let u = far xs up i j d (omega (arith, ne)) m in grind (arith, nat_tests))
+  -- the ranks below n come first
+  pub ranks_parted : (n : ℕ) (xs : List X) → Ascends f xs → IsPartitionedBy (λ x. ltb (f x) n) xs
+  ranks_parted n xs up i j d l m h =
+      ⊎_elim (λ (e : i ≡ j). rw e h)
+      (λ ne. let u = far xs up i j d (omega (arith, ne)) m in let v = ltb-true (f (get_or xs j d)) n h in lt-ltb _ n (omega arith))
       (cases_eq i j)
 
-  pub placed : (n : ℕ) (xs : List X) (r : Result ℕ ℕ) → Ascends f xs → IsSearchInRange r (length xs) → IsBinarySearchResult (λ x. nat_cmp (f x) n) xs r → Placed f n xs r
-  placed n xs (Ok p) up l equal = (l, hits_at n xs p l (λ d. ranked _ n _ (sym (equal d))) up)
-  placed n xs (Err p) up l parted =
-      let parts = parted (comparisons_rise n xs up) in (
-        l,
-        misses_at n xs p l record {
-          below = λ k d m. ranked _ n _ (sym (parts.0 k d (omega arith) m));
-          above = λ k d m o. ranked _ n _ (sym (parts.1 k d m o));
-        } up,
-      )
+  pub placed_hit : (n : ℕ) (xs : List X) (p : ℕ) → Ascends f xs → p < length xs → ((d : X) → f (get_or xs p d) ≡ n) → Placed f n xs (Ok p)
+  placed_hit n xs p up l here = (l, hits_at n xs p l here up)
+
+  -- p parts the ranks below n from the others, and the record at p, if there is one, has another rank
+  pub placed_miss : (n : ℕ) (xs : List X) (p : ℕ) → Ascends f xs → p ≤ length xs → IsPartitionPoint (λ x. ltb (f x) n ≡ true) (λ x. ltb (f x) n ≡ false) xs p →
+      (p < length xs → (d : X) → n ≤ f (get_or xs p d) → n < f (get_or xs p d)) → Placed f n xs (Err p)
+  placed_miss n xs p up l parts other = (
+    l,
+    misses_at n xs p l record {
+      below = λ k d m. ltb-true _ n (parts.0 k d (omega arith) m);
+      above = λ k d m o.
+          let here = other (omega arith) d (ltb-false _ n (parts.1 p d (omega arith) (omega arith))) in
+          ⊎_elim
+          (λ (e : k ≡ p). rw e here)
+          (λ ne. let u = far xs up p k d (omega (arith, ne)) o in omega arith)
+          (cases_eq k p);
+    } up,
+  )

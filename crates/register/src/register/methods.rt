@@ -74,8 +74,12 @@ impl<'a, R: Record> Register<'a, R> {
         ensures place { Placed (by R.Key.Key.rank R.Record.key_of) (R.Key.Key.rank key) self.now.records result }
         ensures keyed { IfOk result (λ p. (x : R) → x ≡ slice_index_or self.now.records p x → R.Record.key_of x ≡ key) }
     {
-        self.records()
-            .binary_search_by(|record| record.key().order(&key))
+        let records = self.records();
+        let at = records.partition_point(|record| record.key().order(&key).is_lt());
+        match records.get(at) {
+            Some(record) if record.key().order(&key).is_eq() => Ok(at),
+            _ => Err(at),
+        }
     }
 }
 

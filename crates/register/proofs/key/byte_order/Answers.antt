@@ -8,7 +8,6 @@ returns c =
     let right : Bytes 12 c.args.right.now = record { many = c.told-right; small = λ i _. c.fits-right i } in
     record {
       order = rw c.cmp.ensures (twelve_compared _ _ left right);
-      compared = c.cmp.ensures;
       bytes = (left, right);
       agrees = byte_order 12;
     }
