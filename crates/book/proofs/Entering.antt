@@ -31,9 +31,6 @@ found_tells k ls o e = go o ∙ ap is_some e ∙ found_is line_rank k ls
 
 -- ---- the answer, check by check
 module _ (today room : ℕ) (ls : List Line) (l : Line) where
-  pub ill_formed : well_formed l ≡ false → refused 4 l.reference ≡ enter_answer today room ls l
-  ill_formed f = sym (cond-true (not (well_formed l)) _ _ (not_from_false (well_formed l) f))
-
   pub present : well_formed l ≡ true → has_rank line_rank l.reference ls ≡ true → refused 6 l.reference ≡ enter_answer today room ls l
   present f h = sym (cond-false (not (well_formed l)) _ _ (not_from_true (well_formed l) f) ∙ cond-true (has_rank line_rank l.reference ls) _ _ h)
 

@@ -1,5 +1,5 @@
 -- What is kept of a list of calls that is worked through.
-use Rattle.std.specs.Prelude.{◌≡◌, List}
+use Rattle.std.specs.Prelude.{◌≡◌, List, length}
 use Rattle.account.specs.Settings.{Setting}
 use Rattle.account.specs.Calls.{Answer, Event, events}
 use Rattle.account.specs.History.{WorkedThrough}
@@ -15,3 +15,4 @@ pub record Works (s : Setting) (before after : Ledger) (last : Answer) : Type 0 
   pub calls : after.calls.now ≡ before.calls.now
   pub answers : after.answers.ghost_name ≡ before.answers.ghost_name
   pub places : after.places.ghost_name ≡ before.places.ghost_name
+  pub as_many_answers : length after.answers.now ≡ length before.answers.now

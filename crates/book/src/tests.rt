@@ -1,7 +1,6 @@
 //! A book at its edges.
 use crate::book::Book;
 use crate::work::{Ledger, work_calls};
-use valuation::setup::Setup;
 use account::call::{Answer, Call, LineRefusal, Margin, Reply};
 use account::line::{Block, Line, Side};
 use account::row::{Row, Scope};
@@ -16,6 +15,7 @@ use quantities::isin::Isin;
 use quantities::range::Rate;
 use quantities::refusal::Refusal;
 use std::test::Fail;
+use valuation::setup::Setup;
 
 const LONG_BOND: Isin = Isin {
     bytes: *b"ES0000001018",

@@ -1,7 +1,7 @@
 //! A day of two accounts: each is worked call by call, then both are put together.
 use account::call::{Answer, Call, LineRefusal, Margin, Reply};
 use account::line::{Block, Line, Side};
-use book::work::{Ledger, work_three_books};
+use book::work::{Ledger, ThreeMargins, work_three_books};
 use curve::point::Point;
 use curve::point::points::Points;
 use curve::step::StepCurve;
@@ -27,22 +27,11 @@ const SHORT_BOND: Isin = Isin {
     bytes: *b"ES0000002024",
 };
 
-fn bought(reference: u32, isin: Isin, titles: u32, cash: u64, block: Block) -> Call {
+fn enter(side: Side, reference: u32, isin: Isin, titles: u32, cash: u64, block: Block) -> Call {
     Call::Enter(Line {
         reference,
         isin,
-        side: Side::Bought,
-        titles,
-        cash,
-        block,
-    })
-}
-
-fn sold(reference: u32, isin: Isin, titles: u32, cash: u64, block: Block) -> Call {
-    Call::Enter(Line {
-        reference,
-        isin,
-        side: Side::Sold,
+        side,
         titles,
         cash,
         block,
@@ -52,12 +41,40 @@ fn sold(reference: u32, isin: Isin, titles: u32, cash: u64, block: Block) -> Cal
 // The third line comes too late to be taken.
 fn first_calls() -> [Call; 7] {
     [
-        bought(1, LONG_BOND, 1_000, 101_000_000, Block::Trade(9_101)),
-        sold(2, LONG_BOND, 400, 40_400_000, Block::Trade(9_001)),
-        bought(3, LONG_BOND, 50, 5_000_000, Block::Trade(9_366)),
+        enter(
+            Side::Bought,
+            1,
+            LONG_BOND,
+            1_000,
+            101_000_000,
+            Block::Trade(9_101),
+        ),
+        enter(
+            Side::Sold,
+            2,
+            LONG_BOND,
+            400,
+            40_400_000,
+            Block::Trade(9_001),
+        ),
+        enter(
+            Side::Bought,
+            3,
+            LONG_BOND,
+            50,
+            5_000_000,
+            Block::Trade(9_366),
+        ),
         Call::AskMargin,
-        bought(3, SHORT_BOND, 3, 300_000, Block::Failed(8_998)),
-        bought(4, LONG_BOND, 0, 2_500, Block::CashOnly(9_000)),
+        enter(
+            Side::Bought,
+            3,
+            SHORT_BOND,
+            3,
+            300_000,
+            Block::Failed(8_998),
+        ),
+        enter(Side::Bought, 4, LONG_BOND, 0, 2_500, Block::CashOnly(9_000)),
         Call::AskMargin,
     ]
 }
@@ -65,24 +82,66 @@ fn first_calls() -> [Call; 7] {
 // The second line is entered by mistake and taken out again.
 fn second_calls() -> [Call; 6] {
     [
-        sold(1, LONG_BOND, 700, 70_700_000, Block::Trade(9_101)),
-        bought(2, SHORT_BOND, 5_000, 1, Block::Held(9_000)),
+        enter(
+            Side::Sold,
+            1,
+            LONG_BOND,
+            700,
+            70_700_000,
+            Block::Trade(9_101),
+        ),
+        enter(Side::Bought, 2, SHORT_BOND, 5_000, 1, Block::Held(9_000)),
         Call::AskMargin,
         Call::Withdraw(2),
         Call::Withdraw(2),
-        bought(3, SHORT_BOND, 7, 700_000, Block::Held(9_000)),
+        enter(Side::Bought, 3, SHORT_BOND, 7, 700_000, Block::Held(9_000)),
     ]
 }
 
 // The lines that stand in the two accounts, under references of their own.
 fn joint_calls() -> [Call; 6] {
     [
-        bought(11, LONG_BOND, 1_000, 101_000_000, Block::Trade(9_101)),
-        sold(12, LONG_BOND, 400, 40_400_000, Block::Trade(9_001)),
-        bought(13, SHORT_BOND, 3, 300_000, Block::Failed(8_998)),
-        bought(14, LONG_BOND, 0, 2_500, Block::CashOnly(9_000)),
-        sold(21, LONG_BOND, 700, 70_700_000, Block::Trade(9_101)),
-        bought(22, SHORT_BOND, 7, 700_000, Block::Held(9_000)),
+        enter(
+            Side::Bought,
+            11,
+            LONG_BOND,
+            1_000,
+            101_000_000,
+            Block::Trade(9_101),
+        ),
+        enter(
+            Side::Sold,
+            12,
+            LONG_BOND,
+            400,
+            40_400_000,
+            Block::Trade(9_001),
+        ),
+        enter(
+            Side::Bought,
+            13,
+            SHORT_BOND,
+            3,
+            300_000,
+            Block::Failed(8_998),
+        ),
+        enter(
+            Side::Bought,
+            14,
+            LONG_BOND,
+            0,
+            2_500,
+            Block::CashOnly(9_000),
+        ),
+        enter(
+            Side::Sold,
+            21,
+            LONG_BOND,
+            700,
+            70_700_000,
+            Block::Trade(9_101),
+        ),
+        enter(Side::Bought, 22, SHORT_BOND, 7, 700_000, Block::Held(9_000)),
     ]
 }
 
@@ -110,7 +169,15 @@ fn show_margin(rt: &impl Print, name: &str, margin: Result<Margin, LineRefusal>)
     }
 }
 
-fn show_calls(rt: &impl Print, calls: &[Call], answers: &[Answer]) -> io::Result<()> {
+fn show_margins(rt: &impl Print, margins: ThreeMargins) -> io::Result<()> {
+    println!(rt; "Their margins")?;
+    show_margin(rt, "first account", margins.first)?;
+    show_margin(rt, "second account", margins.second)?;
+    show_margin(rt, "both together", margins.third)
+}
+
+fn show_calls(rt: &impl Print, title: &str, calls: &[Call], answers: &[Answer]) -> io::Result<()> {
+    println!(rt; "{title}")?;
     for (call, answer) in calls.iter().zip(answers.iter()) {
         show_call(rt, *call, *answer)?;
     }
@@ -152,16 +219,10 @@ fn work_on(rt: &impl Print, market: &Market<'_>, points: &Points<'_>) -> io::Res
             places: &mut joint_places,
         },
     );
-    println!(rt; "The first account")?;
-    show_calls(rt, &first, &first_answers)?;
-    println!(rt; "The second account")?;
-    show_calls(rt, &second, &second_answers)?;
-    println!(rt; "Both accounts together")?;
-    show_calls(rt, &joint, &joint_answers)?;
-    println!(rt; "Their margins")?;
-    show_margin(rt, "first account", margins.first)?;
-    show_margin(rt, "second account", margins.second)?;
-    show_margin(rt, "both together", margins.third)
+    show_calls(rt, "The first account", &first, &first_answers)?;
+    show_calls(rt, "The second account", &second, &second_answers)?;
+    show_calls(rt, "Both accounts together", &joint, &joint_answers)?;
+    show_margins(rt, margins)
 }
 
 fn fill(market: &mut Market<'_>, points: &mut Points<'_>) -> Result<(), Refusal> {
@@ -172,7 +233,12 @@ fn fill(market: &mut Market<'_>, points: &mut Points<'_>) -> Result<(), Refusal>
     points.add(364, 360)
 }
 
-fn work_day(rt: &impl Print, day: Day) -> io::Result<()> {
+/// Prints each call of the day with its answer, then the margins.
+pub fn show_day(rt: &impl Print) -> io::Result<()> {
+    let day = Day {
+        today: TODAY,
+        next: TODAY + 1,
+    };
     let mut prices = [Price::default(); 2];
     let mut percentages = [Percentage::default(); 6];
     let mut market = Market::new(day, &mut prices, &mut percentages);
@@ -181,13 +247,5 @@ fn work_day(rt: &impl Print, day: Day) -> io::Result<()> {
     match fill(&mut market, &mut points) {
         Ok(()) => work_on(rt, &market, &points),
         Err(refusal) => show_refusal(rt, "market", refusal),
-    }
-}
-
-/// Prints each call of the day with its answer, then the margins.
-pub fn show_day(rt: &impl Print) -> io::Result<()> {
-    match Day::new(TODAY, TODAY + 1) {
-        Ok(day) => work_day(rt, day),
-        Err(refusal) => show_refusal(rt, "day", refusal),
     }
 }

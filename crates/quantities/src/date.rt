@@ -16,6 +16,7 @@ pub const LATEST_SETTLEMENT: u16 = 365;
 pub fn settlement_date(today: Date, date: Date) -> Result<Date, Refusal>
     ensures { told (λ d. d) result ≡ dated (settles_in_time today date) date }
 {
+    // Guards, by a rule of the project: they say the two ends of the days one after the other.
     match date {
         early if early < today => Err(Refusal::Date),
         late if late - today > LATEST_SETTLEMENT => Err(Refusal::Date),
@@ -27,6 +28,7 @@ pub fn settlement_date(today: Date, date: Date) -> Result<Date, Refusal>
 pub fn past_date(today: Date, date: Date) -> Result<Date, Refusal>
     ensures { told (λ d. d) result ≡ dated (is_past today date) date }
 {
+    // A guard, by the same rule.
     match date {
         future if future > today => Err(Refusal::Date),
         _ => Ok(date),

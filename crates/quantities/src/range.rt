@@ -16,7 +16,7 @@ impl Cash {
     pub const MOST: u64 = 1_000_000_000_000;
 }
 
-// The five tests stay patterns: one generic test of three like numbers saves two lines, and hides the range.
+// The five tests stay patterns: one generic test proves too, but takes three like numbers, and the pattern is the range itself.
 impl TryFrom<u64> for Cash {
     type Error = Refusal;
 

@@ -12,6 +12,7 @@ fn read_lines(rt: &HostRuntime) -> io::Result<Vec<String>> {
 }
 
 fn show_trade(rt: &impl Print, trade: &Trade, mode: Mode) -> io::Result<()> {
+    // Each rule is a type of its own, and `value` is made for it: a rule behind `dyn` would hide its meaning.
     let valuation = match mode {
         Mode::Net => trade.value(&Net),
         Mode::Gross => trade.value(&Gross),

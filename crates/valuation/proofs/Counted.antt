@@ -1,6 +1,5 @@
 -- Each line is of one block, and of one ISIN of those that lines have.
 use Rattle.std.proofs.Common.{◌≡◌, ℕ, ◌+◌, ◌<◌, ◌≤◌, Bool, true, false, cond, ◌&&◌, List, [], ◌∷◌, length, get_or, drop, sym, refl, ap, ◌∙◌, arith}
-use Rattle.std.proofs.lemmas.List.{at_drop_more}
 use Rattle.quantities.specs.declared.isin.Isin.{Isin}
 use Rattle.account.specs.declared.line.Line.{Line}
 use Rattle.account.specs.Lines.{Kind, trade, failed, held, cash_only, kind, same_kind, same_isin, of, keep, sum_of, isins}
@@ -14,9 +13,6 @@ length_first p x xs = go (p x)
     go : (b : Bool) → length (cond b (x ∷ keep p xs) (keep p xs)) ≡ cond b 1 0 + length (keep p xs)
     go true = omega arith
     go false = omega arith
-
-pub length_more : {X : Type 0} (p : X → Bool) (xs : List X) (k : ℕ) (x : X) (b : Bool) → k < length xs → b ≡ p (get_or xs k x) → length (keep p (drop k xs)) ≡ cond b 1 0 + length (keep p (drop (k + 1) xs))
-length_more p xs k x b h e = at_drop_more (λ ys. length (keep p ys)) xs k x h ∙ length_first p (get_or xs k x) (drop (k + 1) xs) ∙ ap (λ t. cond t 1 0 + length (keep p (drop (k + 1) xs))) (sym e)
 
 length_kept : {X : Type 0} (p : X → Bool) (xs : List X) → length (keep p xs) ≡ sum_of (λ x. cond (p x) 1 0) xs
 length_kept p [] = refl

@@ -10,6 +10,7 @@ use Rattle.account.specs.declared.line.Line.{Line}
 use Rattle.account.specs.Lines.{if_bought, if_sold, keep, sum_of, any}
 use Rattle.account.specs.Settings.{Setting}
 use Rattle.account.specs.Charges.{cash_up, cash_down, cash_charged, cash_credited}
+use Rattle.account.proofs.Sums.{sum_turn, sum_end}
 use Rattle.valuation.specs.declared.sums.PerSide.{PerSide}
 use Rattle.valuation.specs.Sums.{cash_of, Has, Sums}
 
@@ -24,13 +25,6 @@ line_at ls k = get_or ls k no_line
 pub record Summed (f : Line → ℕ) (p : Line → Bool) (ls : List Line) (k n : ℕ) : Type 0 where
   pub sum : n + sum_of f (keep p (drop k ls)) ≡ sum_of f (keep p ls)
 
-sum_first : (f : Line → ℕ) (p : Line → Bool) (l : Line) (ls : List Line) → sum_of f (keep p (l ∷ ls)) ≡ cond (p l) (f l) 0 + sum_of f (keep p ls)
-sum_first f p l ls = go (p l)
-  where
-    go : (b : Bool) → sum_of f (cond b (l ∷ keep p ls) (keep p ls)) ≡ cond b (f l) 0 + sum_of f (keep p ls)
-    go true = refl
-    go false = omega arith
-
 pub summed_none : (f : Line → ℕ) (p : Line → Bool) (ls : List Line) → Summed f p ls 0 0
 summed_none f p ls = record { sum = omega arith }
 
@@ -38,11 +32,11 @@ pub summed_more : {f : Line → ℕ} {p : Line → Bool} {ls : List Line} {k n m
 summed_more {f} {p} {ls} {k} t h e d s =
     record {
       sum =
-          omega (arith, at_drop_more (λ ms. sum_of f (keep p ms)) ls k no_line h ∙ sum_first f p (line_at ls k) (drop (k + 1) ls), s.sum, ap {B = ℕ} (λ b. cond b (f (line_at ls k)) 0) e);
+          omega (arith, sum_turn f p ls k no_line h, s.sum, ap {B = ℕ} (λ b. cond b (f (line_at ls k)) 0) e);
     }
 
 pub summed_all : {f : Line → ℕ} {p : Line → Bool} {ls : List Line} {k n : ℕ} → length ls ≤ k → Summed f p ls k n → n ≡ sum_of f (keep p ls)
-summed_all {f} {p} {ls} {k} h s = omega (arith, at_drop_all (λ ms. sum_of f (keep p ms)) ls k h, s.sum)
+summed_all {f} {p} {ls} {k} h s = omega (arith, sum_end f p ls k h, s.sum)
 
 -- a sum over the lines that pass p, each at most b, has come to n before the line k
 pub record Bounded (b : ℕ) (p : Line → Bool) (ls : List Line) (k n : ℕ) : Type 0 where

@@ -30,6 +30,7 @@ impl From<Block> for BlockKind {
 }
 
 /// Whether a line is of an ISIN and block.
+// The two stay apart: the walk holds the ISIN still and goes through the blocks.
 pub fn is_of(line: &Line, isin: Isin, kind: BlockKind) -> bool
     ensures { result ≡ of isin (kind_of kind) line.now }
 {

@@ -11,6 +11,7 @@ use register::key::byte_order;
 fn comes_after(after: Option<Isin>, isin: Isin) -> bool
     ensures { result ≡ comes_after after isin }
 {
+    // By byte_order, whose contract is the rank of the definitions; the derived order has none.
     after.is_none_or(|last| byte_order(&last.bytes, &isin.bytes).is_lt())
 }
 

@@ -14,6 +14,7 @@ use account::row::Row;
 use quantities::amount::{Cents, SignedCents};
 
 /// A margin, and how many rows its statement has.
+// A count and not the rows: they stand in memory that the caller lent and keeps.
 #[derive(Clone, Copy)]
 pub struct Statement {
     pub margin: Margin,

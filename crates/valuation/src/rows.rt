@@ -23,6 +23,7 @@ use quantities::range::Titles;
 fn charged_titles<B: Basis>(basis: &B, position: Position, scope: Scope) -> Titles
     ensures { result.count ≡ rule_in scope (B.setting basis.now).charged position.bought.count position.sold.count }
 {
+    // A match on what a row is of: a closure for each scope would only hide the rule that it names.
     match scope {
         Scope::Trades(_) => basis.charge(position),
         _ => BothSides.charge(position),
@@ -30,6 +31,7 @@ fn charged_titles<B: Basis>(basis: &B, position: Position, scope: Scope) -> Titl
 }
 
 /// The charge of a row.
+// The bound is a clause and no invariant of Row: a row is plain data of the statement, and any may be written down.
 pub(crate) fn charge_of(row: Row) -> SignedCents
     requires { Within 65535 row }
     ensures { result ≡ charge row }
@@ -47,22 +49,24 @@ fn worse_of(a: Row, b: Row) -> Row
 }
 
 impl<'a, B: Basis> ReadyLines<'a, B> {
-    // The quote of an ISIN that has lines in a block of titles.
-    fn quote_in(&self, isin: Isin, kind: BlockKind) -> Quote
-        requires titled { same_kind (kind_of kind) cash_only ≡ false }
-        requires some { 1 ≤ length (keep (of isin (kind_of kind)) self.now.lines.now) }
-        ensures { Ok (numbers result) ≡ quote_answer (B.setting self.now.basis.now) isin }
+    // The quote by which a row of titles is worked, where its block has lines.
+    fn quote_in(&self, key: RowKey) -> Quote
+        requires titled { same_kind (block_of key.scope) cash_only ≡ false }
+        requires some { 1 ≤ length (keep (of key.isin (block_of key.scope)) self.now.lines.now) }
+        ensures { Ok (numbers result) ≡ quote_answer (B.setting self.now.basis.now) key.isin }
     {
-        self.basis.quote_of(isin).unwrap()
+        self.basis.quote_of(key.isin).unwrap()
     }
 
     // A row, where its block has lines.
-    fn row_in(&self, key: RowKey, quote: Quote) -> Row
-        requires quoted { Ok (numbers quote) ≡ quote_answer (B.setting self.now.basis.now) key.isin }
+    // That its block has lines is asked of the caller: it holds of one ISIN and block at a time, not of all lines.
+    fn row_in(&self, key: RowKey) -> Row
+        requires titled { same_kind (block_of key.scope) cash_only ≡ false }
         requires some { 1 ≤ length (keep (of key.isin (block_of key.scope)) self.now.lines.now) }
         ensures is { let s = B.setting self.now.basis.now in result ≡ row s (rule_in key.scope s.charged) key.isin key.scope (lines_in s key.isin key.scope self.now.lines.now) }
         ensures within { Within (length (keep (of key.isin (block_of key.scope)) self.now.lines.now)) result }
     {
+        let quote = self.quote_in(key);
         let position = self.titles_in(key);
         let cash = self.cash_in(key);
         let charged = charged_titles(self.basis, position, key.scope);
@@ -76,26 +80,24 @@ impl<'a, B: Basis> ReadyLines<'a, B> {
     }
 
     // The row of the trades of an ISIN in a scenario.
-    fn scenario_row(&self, isin: Isin, quote: Quote, scenario: Scenario) -> Row
-        requires quoted { Ok (numbers quote) ≡ quote_answer (B.setting self.now.basis.now) isin }
-        requires some { 1 ≤ length (keep (of isin trade) self.now.lines.now) }
+    fn scenario_row(&self, isin: Isin, scenario: Scenario) -> Row
+        requires { 1 ≤ length (keep (of isin trade) self.now.lines.now) }
         ensures is { let s = B.setting self.now.basis.now in result ≡ row s s.charged isin (Scope.Trades scenario) (lines_in s isin (Scope.Trades scenario) self.now.lines.now) }
         ensures within { Within (length (keep (of isin trade) self.now.lines.now)) result }
     {
         let scope = Scope::Trades(scenario);
-        self.row_in(RowKey { isin, scope }, quote)
+        self.row_in(RowKey { isin, scope })
     }
 
     // The row of the trades of an ISIN that has some: the worst of the three scenarios.
-    fn trades_row(&self, isin: Isin, quote: Quote) -> Row
-        requires quoted { Ok (numbers quote) ≡ quote_answer (B.setting self.now.basis.now) isin }
-        requires some { 1 ≤ length (keep (of isin trade) self.now.lines.now) }
+    fn trades_row(&self, isin: Isin) -> Row
+        requires { 1 ≤ length (keep (of isin trade) self.now.lines.now) }
         ensures is { result ≡ worst (B.setting self.now.basis.now) isin (keep (of isin trade) self.now.lines.now) }
         ensures within { Within (length (keep (of isin trade) self.now.lines.now)) result }
     {
-        let all = self.scenario_row(isin, quote, Scenario::AllTrades);
-        let without_today = self.scenario_row(isin, quote, Scenario::WithoutToday);
-        let without_next = self.scenario_row(isin, quote, Scenario::WithoutNext);
+        let all = self.scenario_row(isin, Scenario::AllTrades);
+        let without_today = self.scenario_row(isin, Scenario::WithoutToday);
+        let without_next = self.scenario_row(isin, Scenario::WithoutNext);
         worse_of(worse_of(all, without_today), without_next)
     }
 
@@ -120,21 +122,17 @@ impl<'a, B: Basis> ReadyLines<'a, B> {
         ensures is { result ≡ block_row (B.setting self.now.basis.now) isin (kind_of kind) (keep (of isin (kind_of kind)) self.now.lines.now) }
         ensures within { Within (length (keep (of isin (kind_of kind)) self.now.lines.now)) result }
     {
+        // A match on the four blocks, of which each has a row of its own kind by definition.
         match kind {
-            BlockKind::Trades => {
-                let quote = self.quote_in(isin, kind);
-                self.trades_row(isin, quote)
-            }
-            BlockKind::Failed => {
-                let quote = self.quote_in(isin, kind);
-                let scope = Scope::FailedLines;
-                self.row_in(RowKey { isin, scope }, quote)
-            }
-            BlockKind::Held => {
-                let quote = self.quote_in(isin, kind);
-                let scope = Scope::HeldLines;
-                self.row_in(RowKey { isin, scope }, quote)
-            }
+            BlockKind::Trades => self.trades_row(isin),
+            BlockKind::Failed => self.row_in(RowKey {
+                isin,
+                scope: Scope::FailedLines,
+            }),
+            BlockKind::Held => self.row_in(RowKey {
+                isin,
+                scope: Scope::HeldLines,
+            }),
             BlockKind::CashOnly => self.cash_only_row(isin),
         }
     }
@@ -144,6 +142,7 @@ impl<'a, B: Basis> ReadyLines<'a, B> {
         ensures is { option_to_list result ≡ block_rows (B.setting self.now.basis.now) self.now.lines.now isin (kind_of kind) }
         ensures within { EachWithin (length (keep (of isin (kind_of kind)) self.now.lines.now)) result }
     {
+        // Branches and not `then`: that there are lines, which worked_row asks for, is known in the branch.
         if has_lines(self.lines, isin, kind) {
             Some(self.worked_row(isin, kind))
         } else {

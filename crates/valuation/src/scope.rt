@@ -14,6 +14,7 @@ use quantities::isin::Isin;
 fn settles_in<B: Basis>(basis: &B, scenario: Scenario, date: Date) -> bool
     ensures { result ≡ settles_in (B.setting basis.now) scenario date }
 {
+    // A match on the three scenarios as they are defined: there is no fourth for a caller to bring.
     match scenario {
         Scenario::AllTrades => true,
         Scenario::WithoutToday => date != basis.today(),

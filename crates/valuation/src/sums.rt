@@ -67,6 +67,7 @@ impl<'a, B: Basis> ReadyLines<'a, B> {
         ensures within { Bounds (length (lines_in (B.setting self.now.basis.now) key.isin key.scope self.now.lines.now)) result }
     {
         let mut sums = PerSide { bought: 0, sold: 0 };
+        // A loop and not `fold`: the bound of the sums has to last from line to line.
         for line in self.lines {
             if key.picks(self.basis, line) {
                 sums.add(line.side, number(*line));

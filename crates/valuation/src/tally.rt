@@ -5,6 +5,7 @@ use quantities::amount::SignedCents;
 pub mod methods;
 
 /// The charges of rows by block, their count and that of their rounded amounts, and lent places into which they are written as far as there are any.
+// A lent slice and a count, since the engine takes no memory of its own.
 #[derive(Drop)]
 pub(crate) struct Tally<'r> {
     pub rows: &'r mut [Row],

@@ -30,6 +30,7 @@ impl<'a, B: Basis> ReadyLines<'a, B> {
         ensures tallied { Tallied (statement_rows (B.setting self.now.basis.now) self.now.lines.now) tally.old tally.new }
         ensures within { TallyWithin 65535 tally.new }
     {
+        // Asked again until there is none: each ISIN follows from the one before, and no items are at hand.
         let mut after = None;
         while let Some(isin) = next_isin(self.lines, after) {
             self.add_isin(isin, tally);

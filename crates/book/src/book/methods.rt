@@ -1,6 +1,7 @@
 ghost use Rattle.std.specs.Prelude.{◌≡◌, ◌≤◌, min, [], length};
 ghost use Rattle.book.specs.Books.{lines_of, room_for, today_of, setting_for, Enters, Withdraws, Takes, TakesAll};
-ghost use Rattle.account.specs.Calls.{told_margin};
+ghost use Rattle.account.specs.Calls.{line_rank, told_margin};
+ghost use Rattle.register.specs.Keys.{Ascends};
 ghost use Rattle.valuation.specs.Statements.{States};
 ghost use Rattle.account.specs.Answers.{margin_answer};
 ghost use Rattle.book.specs.Checks.{Admits};
@@ -32,7 +33,10 @@ impl<'m, 'p, 'l> Book<'m, 'p, 'l> {
 
     /// The lines that stand, by reference.
     pub fn lines(&self) -> &[Line]
-        ensures { result.now ≡ lines_of self.now }
+        ensures all { result.now ≡ lines_of self.now }
+        ensures ascends { Ascends line_rank (lines_of self.now) }
+        ensures within { length (lines_of self.now) ≤ room_for self.now }
+        ensures few { room_for self.now ≤ 65535 }
     {
         self.lines.records()
     }
@@ -85,6 +89,7 @@ impl<'m, 'p, 'l> Book<'m, 'p, 'l> {
         }
     }
 
+    // Curve and rule stay two arguments: a book has its market already, and a setup would bring another.
     /// The margin of the lines that stand, by a curve and a netting rule.
     pub fn margin<'s, C: Curve, N: NettingRule>(
         &'s self,

@@ -12,6 +12,7 @@ use account::row::Row;
 use curve::Curve;
 use netting::NettingRule;
 
+// A setting is written out by curve and rule: it holds functions, so no model of a setup can be one.
 impl<'a, 'p, C: Curve, N: NettingRule> Portfolio<'a, 'p, C, N> {
     /// The margin with the count of its statement's rows, which are written as far as there are places;
     /// or the refusal of the first line without price, percentage or rate, and then nothing is written.

@@ -22,6 +22,7 @@ fn amounts_of(row: Row) -> u32
 fn write_at(rows: &mut [Row], place: usize, row: Row)
     ensures { rows.new ≡ slice_set rows.old place row }
 {
+    // By its index: of `get_mut` it is not known what the slice ends as.
     if place < rows.len() {
         rows[place] = row;
     }
@@ -44,6 +45,7 @@ impl<'r> Tally<'r> {
         }
     }
 
+    // The room is a clause and no invariant: it is counted anew for each ISIN while lines are walked.
     /// Counts a row, adds its charge to its block, and writes it where there is a place for it.
     pub(crate) fn add(&mut self, row: Row)
         requires room { TallyWithin 65535 self.old }

@@ -34,7 +34,7 @@ check_titles-requires c =
     let b = c.args.self.now in
     let l = c.args.line.now in
     record {
-      standing = subst (λ (ls : List Line). titles_of l.isin (kind l.block) ls ≤ most_titles) (sym c.lines.ensures) (b.titles l.isin (kind l.block));
+      standing = subst (λ (ls : List Line). titles_of l.isin (kind l.block) ls ≤ most_titles) (sym c.lines.ensures.all) (b.titles l.isin (kind l.block));
       own = formed_titles l c.in_ok-check_form.ensures;
     }
 
@@ -45,4 +45,4 @@ returns c =
     let new : has_rank line_rank l.reference (lines_of b) ≡ false = sym (found_tells l.reference (lines_of b) c.find.result c.find.ensures.found) ∙ sym c.if-is_some.ensures in
     let dated : well_dated (today_of b) l.block ≡ true = ap (λ day. well_dated day l.block) (sym c.today.ensures) ∙ c.in_ok-check_date.ensures in
     titles_checked (today_of b) (lines_of b) l c.in_ok-check_form.ensures new dated c.check_titles.result
-    (subst (λ (ls : List Line). Checks 8 (leb (titles_with l ls) most_titles) c.check_titles.result) c.lines.ensures c.check_titles.ensures)
+    (subst (λ (ls : List Line). Checks 8 (leb (titles_with l ls) most_titles) c.check_titles.result) c.lines.ensures.all c.check_titles.ensures)

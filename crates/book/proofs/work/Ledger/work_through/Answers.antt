@@ -1,4 +1,4 @@
-use Rattle.std.proofs.Common.{refl}
+use Rattle.std.proofs.Common.{refl, rules}
 use Rattle.account.specs.Calls.{told_margin}
 use Rattle.book.proofs.Promise.{worked_through}
 use Rattle.book.proofs.work.Ledger.work_through.Goals as goal
@@ -11,4 +11,4 @@ returns g c =
     let worked = worked_through (g.C.Curve.reach t.curve.now) (g.C.Curve.rate t.curve.now) (g.N.NettingRule.charged t.rule.now) t.market.now
     c.new-book.result c.take_all.new.self l.calls.now l.answers.now c.take_all.new.answers l.places.now _ (told_margin c.margin.result)
     (g.met.N.NettingRule.nets t.rule.now) (g.met.C.Curve.discounting t.curve.now) c.if-self.false new.empty new.room new.market c.take_all.ensures c.margin.ensures in
-    record { worked = worked; calls = refl; answers = refl; places = refl }
+    record { worked = worked; calls = refl; answers = refl; places = refl; as_many_answers = search rules }

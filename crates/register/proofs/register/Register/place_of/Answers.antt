@@ -27,9 +27,9 @@ returns-in_default-clause-place g c =
     let up : Ascends f xs = rw c.records-records.ensures.all c.records-records.ensures.ascends in
     let parts = c.partition_point-at.ensures.partitioned (λ x. ltb (f x) n) (always_returns_same _ _ _ (λ a r s called. search (rules, lower))) (ranks_parted f n xs up) in
     let other : at < length xs → (d : g.row.R.Denot) → n ≤ f (get_or xs at d) → n < f (get_or xs at d) = λ l d m.
-        let here = ap f (sym (c.in-Some.ensures.lookup.3.1 d)) ∙ ap rank (sym c.key.ensures) in
-        let more = higher rank _ _ _ c.order.ensures (sym c.is_eq.ensures ∙ c.if-is_eq.false) (omega (arith, here)) in
-        omega (arith, here, more)
+    let here = ap f (sym (c.in-Some.ensures.lookup.3.1 d)) ∙ ap rank (sym c.key.ensures) in
+    let more = higher rank _ _ _ c.order.ensures (sym c.is_eq.ensures ∙ c.if-is_eq.false) (omega (arith, here)) in
+    omega (arith, here, more)
     in
     subst (λ ys. Placed f n ys (Err at)) c.records-records.ensures.all (placed_miss f n xs at up c.partition_point-at.ensures.bound parts other)
 

@@ -35,10 +35,10 @@ returns g c =
     let e = variation_is v.result m.result.bought m.result.sold v.ensures.low v.ensures.high (omega (arith, m.ensures.within.bought, few)) (omega (arith, m.ensures.within.sold, few)) in
     record {
       is =
-          row_is i scope c.args.quote c.initial_margin.result m.result.bought m.result.sold v.result _ e s (rule_in scope s.charged) (lines_in s i scope ls)
-          c.charged_titles-charged.result.count t.result.bought.count t.result.sold.count c.requires.quoted c.charged_titles-charged.ensures t.ensures.bought t.ensures.sold
+          row_is i scope c.quote_in-quote.result c.initial_margin.result m.result.bought m.result.sold v.result _ e s (rule_in scope s.charged) (lines_in s i scope ls)
+          c.charged_titles-charged.result.count t.result.bought.count t.result.sold.count c.quote_in-quote.ensures c.charged_titles-charged.ensures t.ensures.bought t.ensures.sold
           m.ensures.bought m.ensures.sold c.initial_margin.ensures.is v.ensures.is;
       within =
-          row_within i scope c.args.quote c.initial_margin.result m.result.bought m.result.sold v.result _ e (length (lines_in s i scope ls)) _ c.initial_margin.ensures.high v.ensures.low v.ensures.high
+          row_within i scope c.quote_in-quote.result c.initial_margin.result m.result.bought m.result.sold v.result _ e (length (lines_in s i scope ls)) _ c.initial_margin.ensures.high v.ensures.low v.ensures.high
           m.ensures.within.bought m.ensures.within.sold (lines_fewer s i scope ls) c.requires.some;
     }
