@@ -2,7 +2,7 @@
 use Rattle.std.proofs.Common.{◌≡◌, ℕ, zero, suc, ◌+◌, ◌*◌, ◌<◌, ◌≤◌, Bool, true, false, cond, ◌||◌, List, [], ◌∷◌, length, get_or, drop, sym, refl, ap, ap₂, ◌∙◌, mul-le-mul_left, mul-add, inl, inr, arith}
 use Rattle.std.specs.List.{list_any, count_by, filter}
 use Rattle.std.proofs.lemmas.List.Sums.{length-filter}
-use Rattle.std.proofs.lemmas.List.{at_drop_more, at_drop_all}
+use Rattle.std.proofs.lemmas.List.{at_drop_more}
 use Rattle.account.specs.declared.line.Side.{Side}
 use Rattle.account.specs.declared.line.Side.TheVariants.{Bought, Sold}
 use Rattle.account.specs.declared.line.Block.TheVariants.{Trade}
