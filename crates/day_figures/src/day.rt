@@ -154,6 +154,7 @@ fn show_call(rt: &impl Print, call: Call, answer: Answer) -> io::Result<()> {
 }
 
 // A margin, with the bounds in which the exact margin lies: one cent for each rounded amount below it.
+// No Display: the name and the bounds are of this line, and no part of a margin.
 fn show_margin(rt: &impl Print, name: &str, margin: Result<Margin, LineRefusal>) -> io::Result<()> {
     match margin {
         Ok(
