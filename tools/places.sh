@@ -19,7 +19,7 @@ show "1 answers that are a number for nothing" '_stands?\(\) -> u8'
 echo "== 2 names that stand more than once"
 git grep -hoE '\b(struct|enum|trait|fn) [A-Za-z_]+' $commit -- ':(glob)crates/*/src/**/*.rt' ':(exclude,glob)crates/*/src/**/tests.rt' |
     sort | uniq -c | awk '$1 > 1 { print "   " $1, $2, $3; n += $1 } END { print "   in all " n }'
-show "3 loops" '\b(while|loop|for [a-z_(), ]+ in)\b'
+show "3 loops" '\b(while|loop|for [&a-z_(), ]+ in)\b'
 show "4 conversions, copies and comparisons by hand" 'fn (new\(.*\) -> Result|read\(|number\(|blank\(|words\(|order\(|same_[a-z]+\(|byte_order\(|is_letter\(|is_digit\(|first_point\(|last_point\(|comes_after\(|better\(|has\(|of\()|\.bytes ==|fn (read|show)_(side|mode|isin|misread|answer|margin|call)\('
 show "5 the setting written out" 'setting_(of|with|for) \(?C\.Curve'
 show "5 the order written out" 'Ascends \(?(by|λ|price_rank|percentage_rank|line_rank)'

@@ -75,6 +75,7 @@ same_terms a b =
     && (a.cash == b.cash
     && (same_kind (kind a.block) (kind b.block) && date a.block == date b.block))))
 
+-- keep, sum_of and any stand here and not as the library's filter, sum_by and list_any: an auditor reads them beside the lines
 -- those of a list that pass a test
 abbrev pub keep : {X : Type 0} → (X → Bool) → List X → List X
 keep p [] = []

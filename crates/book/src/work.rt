@@ -21,6 +21,7 @@ pub struct Ledger<'a> {
     pub places: &'a mut [Line],
 }
 
+// The setting is written out by curve and rule, as in a portfolio: it holds functions, so no model of a setup can be one.
 impl Ledger<'_> {
     // Takes the calls on a book without lines, writes their answers, and asks the margin.
     fn work_through<C: Curve, N: NettingRule>(

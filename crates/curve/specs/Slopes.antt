@@ -1,4 +1,4 @@
--- A slope stays between its two ends.
+-- A slope stays between its two ends. Here and not in proofs, as what cites it in Discounted.
 use Rattle.std.specs.Prelude.{◌≡◌, ℕ, zero, suc, ◌+◌, ◌*◌, ◌/◌, ◌<◌, ◌≤◌, ℤ, pos, negsuc, ◌+ℤ◌, ◌-ℤ◌, ◌*ℤ◌, neg_ℤ, ◌≤ℤ◌}
 use Rattle.std.proofs.Common.{arith, add-mul, mul-le-mul, mul-le-mul_left}
 use borrow.Author.Differences.{le_out}

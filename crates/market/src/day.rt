@@ -23,9 +23,10 @@ impl Day {
     pub fn new(today: Date, next: Date) -> Result<Day, Refusal>
         ensures { told (λ day. (day.today, day.next)) result ≡ day_answer today next }
     {
-        match next.checked_sub(today) {
-            Some(1..=Day::LATEST_NEXT) => Ok(Day { today, next }),
-            _ => Err(Refusal::Date),
+        match next {
+            early if early <= today => Err(Refusal::Date),
+            late if late - today > Day::LATEST_NEXT => Err(Refusal::Date),
+            _ => Ok(Day { today, next }),
         }
     }
 }

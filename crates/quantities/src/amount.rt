@@ -23,6 +23,7 @@ struct Fraction {
 }
 
 impl Fraction {
+    // Up and down stay two methods, for the same reason as the present values below.
     fn rounded_up(self) -> Cents
         ensures is { result ≡ round_up self.upper self.lower }
         ensures near { JustAbove self.upper self.lower result }
@@ -52,6 +53,7 @@ fn present_value(cash: Cash, rate: Rate, term: Term) -> Fraction
     }
 }
 
+// Two functions: one with a side for a parameter is no plainer, since each side has a contract of its own.
 /// The present value of cash that is charged: rounded up.
 pub fn present_value_up(cash: Cash, rate: Rate, term: Term) -> Cents
     ensures is { result ≡ present_up cash.cents rate.basis_points term.days }
@@ -84,6 +86,7 @@ pub fn initial_margin(charged: Titles, price: UnitPrice, percentage: MarginPerce
     margin.rounded_up()
 }
 
+// Two numbers of titles and no position: a position is bounded, which would ask more of callers.
 /// The market value of titles bought less titles sold: rounded down, also below zero.
 pub fn market_value(price: UnitPrice, bought: Titles, sold: Titles) -> SignedCents
     ensures is { result ≡ market_value price.millionths bought.count sold.count }

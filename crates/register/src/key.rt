@@ -14,6 +14,7 @@ pub trait Key: Copy {
         ensures { Compares rank self.now other.now result };
 }
 
+// Four like bodies: a default one was tried and does not prove, since it sees twelve bytes as numbers of any size, which have no such rank.
 impl Key for u8 {
     ghost rank = { λ k. k };
 
@@ -47,6 +48,7 @@ impl Key for [u8; 12] {
     }
 }
 
+// A function and no bare `cmp`: its contract is the rank, which the library's order does not have.
 /// Compares two keys of twelve bytes: the first byte in which they differ decides.
 pub fn byte_order(left: &[u8; 12], right: &[u8; 12]) -> Ordering
     ensures order { Compares (value 0) left.now right.now result }
