@@ -1,8 +1,12 @@
-//! Values one trade from beginning to end, and prints the worked figures.
+//! Values one trade from beginning to end, and prints the worked figures and a day of two accounts.
 #![tactic(auto)]
 
 use std::io;
 
+mod day;
+
 fn main(rt: HostRuntime) -> io::Result<()> {
-    specimen::program::run(&rt)
+    specimen::program::run(&rt)?;
+    println!(&rt; "")?;
+    day::show_day(&rt)
 }
