@@ -1,0 +1,107 @@
+//! How long a book takes to enter its lines and to give its margin.
+use crate::sample::{LINES_PER_ISIN, TODAY, sample_isin, sample_line};
+use account::line::Line;
+use book::book::Book;
+use curve::point::Point;
+use curve::point::points::Points;
+use curve::step::StepCurve;
+use market::day::Day;
+use market::market::Market;
+use market::price::{Percentage, Price};
+use netting::Net;
+use quantities::range::Rate;
+use quantities::refusal::Refusal;
+use std::io;
+use std::time::{Duration, Instant};
+
+/// The times of a book of so many lines: to enter them all, and to give one margin.
+#[derive(Clone, Copy)]
+pub struct Pace {
+    pub lines: u32,
+    entering: Duration,
+    margin: Duration,
+}
+
+impl Pace {
+    /// Microseconds to enter a line.
+    pub fn micros_a_line(&self) -> f64 {
+        self.entering.as_secs_f64() * 1e6 / f64::from(self.lines)
+    }
+
+    /// Milliseconds to give a margin.
+    pub fn millis_a_margin(&self) -> f64 {
+        self.margin.as_secs_f64() * 1e3
+    }
+}
+
+// A price for each ISIN of the sample, and what else its lines need.
+fn fill(market: &mut Market<'_>, points: &mut Points<'_>, lines: u32) -> Result<(), Refusal> {
+    for number in 0..lines.div_ceil(LINES_PER_ISIN) {
+        market.add_price(sample_isin(number), 1_000_000, 11_000)?;
+    }
+    market.add_percentage(4, 200)?;
+    points.add(364, 360)
+}
+
+fn enter_all(book: &mut Book<'_, '_, '_>, lines: &[Line]) -> Result<(), Refusal> {
+    for line in lines {
+        book.enter(*line)?;
+    }
+    Ok(())
+}
+
+// How long it takes to enter the sample in a book without lines, and then to give its margin.
+fn time_book(
+    rt: &HostRuntime,
+    market: &Market<'_>,
+    points: &Points<'_>,
+    sample: &[Line],
+    places: &mut [Line],
+) -> io::Result<Result<(Duration, Duration), Refusal>> {
+    let curve = StepCurve { points };
+    let mut book = Book::new(market, places);
+    let start = Instant::now(rt)?;
+    let entered = enter_all(&mut book, sample);
+    let entering = start.elapsed(rt)?;
+    let start = Instant::now(rt)?;
+    let given = book.margin(&curve, &Net);
+    let margin = start.elapsed(rt)?;
+    Ok(match (entered, given) {
+        (Ok(()), Ok(_)) => Ok((entering, margin)),
+        (Err(refusal), _) => Err(refusal),
+        (Ok(()), Err(refused)) => Err(refused.refusal),
+    })
+}
+
+/// Times a sample book of so many lines, a power of two; a refusal is no pace.
+pub fn time(rt: &HostRuntime, lines: u32) -> io::Result<Result<Pace, Refusal>> {
+    let alloc = rt.alloc();
+    let sample: Vec<Line> = (0..lines)
+        .map(|place| sample_line(place, lines))
+        .collect(alloc)?;
+    let mut places: Vec<Line> = sample.iter().map(|_| Line::default()).collect(alloc)?;
+    let mut prices: Vec<Price> = sample.iter().map(|_| Price::default()).collect(alloc)?;
+    let day = Day {
+        today: TODAY,
+        next: TODAY + 1,
+    };
+    let mut percentages = [Percentage::default(); 6];
+    let mut market = Market::new(day, prices.as_mut_slice(), &mut percentages);
+    let mut point = [Point::new(0, Rate { basis_points: 0 }); 1];
+    let mut points = Points::new(&mut point);
+    if let Err(refusal) = fill(&mut market, &mut points, lines) {
+        return Ok(Err(refusal));
+    }
+    let times = time_book(
+        rt,
+        &market,
+        &points,
+        sample.as_slice(),
+        places.as_mut_slice(),
+    )?;
+    Ok(times.map(|(entering, margin)| Pace {
+        lines,
+        entering,
+        margin,
+    }))
+}
