@@ -14,6 +14,10 @@ use quantities::refusal::Refusal;
 use std::io;
 use std::time::{Duration, Instant};
 
+// How many lines are entered at each size, in as many rounds as that makes. The least of the rounds is told, since
+// what else the machine does only adds to a time.
+const LINES_ENTERED: u32 = 81_920;
+
 /// The times of a book of so many lines: to enter them all, and to give one margin.
 #[derive(Clone, Copy)]
 pub struct Pace {
@@ -92,16 +96,25 @@ pub fn time(rt: &HostRuntime, lines: u32) -> io::Result<Result<Pace, Refusal>> {
     if let Err(refusal) = fill(&mut market, &mut points, lines) {
         return Ok(Err(refusal));
     }
-    let times = time_book(
-        rt,
-        &market,
-        &points,
-        sample.as_slice(),
-        places.as_mut_slice(),
-    )?;
-    Ok(times.map(|(entering, margin)| Pace {
+    let mut least = Pace {
         lines,
-        entering,
-        margin,
-    }))
+        entering: Duration::MAX,
+        margin: Duration::MAX,
+    };
+    for _ in 0..LINES_ENTERED.checked_div(lines).unwrap_or(0) {
+        match time_book(
+            rt,
+            &market,
+            &points,
+            sample.as_slice(),
+            places.as_mut_slice(),
+        )? {
+            Ok((entering, margin)) => {
+                least.entering = least.entering.min(entering);
+                least.margin = least.margin.min(margin);
+            }
+            Err(refusal) => return Ok(Err(refusal)),
+        }
+    }
+    Ok(Ok(least))
 }
