@@ -1,4 +1,4 @@
-//! What the programs do first: they value the trade that they read, and print the worked figures.
+//! What the program does first: it values the trade that it reads, and prints the worked figures.
 use crate::input::{Mode, read_input};
 use crate::trade::Trade;
 use crate::{report, worked};

@@ -1,4 +1,4 @@
-//! What the programs print of a trade.
+//! What the program prints of a trade.
 use crate::trade::Valuation;
 use quantities::refusal::Refusal;
 use std::fmt::Display;
