@@ -1,0 +1,4 @@
+pub mod Joined
+pub mod Numbers
+pub mod Parts
+pub mod Spelled

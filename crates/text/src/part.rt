@@ -1,0 +1,23 @@
+//! Bytes parted at a separator.
+ghost use Rattle.std.specs.Prelude.{◌≡◌, ◌<◌, ◌∷◌, ◌==◌, length, IfSome};
+ghost use Rattle.std.specs.List.{position};
+ghost use Rattle.text.specs.Parts.{parts, parts_after};
+
+// The place of the first separator.
+fn position(bytes: &[u8], separator: u8) -> Option<usize>
+    ensures { result ≡ position (λ b. b == separator) bytes.now }
+{
+    bytes.iter().position(|&b| b == separator)
+}
+
+/// The first part, and what follows its separator if there is one.
+#[tactic(auto, using(crate::proofs::Parts::first_ends, crate::proofs::Parts::only_one))]
+pub fn next_part(bytes: &[u8], separator: u8) -> (&[u8], Option<&[u8]>)
+    ensures parts { parts separator bytes.now ≡ result.0.now ∷ parts_after separator result.1 }
+    ensures shorter { IfSome result.1 (λ r. length r.now < length bytes.now) }
+{
+    match position(bytes, separator) {
+        Some(end) => (&bytes[..end], Some(&bytes[end + 1..])),
+        None => (bytes, None),
+    }
+}
