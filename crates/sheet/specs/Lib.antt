@@ -1,0 +1,4 @@
+pub mod Kinds
+pub mod Sheets
+pub mod Found
+pub mod Laws

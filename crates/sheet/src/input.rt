@@ -1,0 +1,70 @@
+//! What is left of an input.
+ghost use Rattle.std.specs.Prelude.{◌≡◌, ◌≤◌, ◌^◌, [], length, ◌==◌, ◌&&◌, MatchOption};
+ghost use Rattle.text.specs.Lines.{lines, loose};
+ghost use Rattle.sheet.specs.Sheets.{Follows};
+
+use std::marker::Model;
+use text::line::next_line;
+
+/// The part of an input that is still to be read, and the number of its first line, counted from 1 over the whole input.
+#[derive(Drop)]
+pub struct Input<'a> {
+    ahead: &'a [u8],
+    first: usize,
+}
+
+impl<'a> Model for Input<'a> {
+    ghost use Rattle.std.specs.Prelude.{◌+◌, ◌≤◌, ◌^◌, length};
+    ghost use Rattle.text.specs.Lines.{lines, loose};
+    ghost use Rattle.sheet.specs.Sheets.{Left};
+
+    ghost Value = { Left };
+
+    ghost view = { λ i. record { lines = lines i.ahead.now; loose = loose i.ahead.now; line = i.first } };
+
+    ghost invariant = { λ i. i.first + length i.ahead.now ≤ 2 ^ 63 };
+}
+
+impl<'a> Input<'a> {
+    /// The whole of an input.
+    pub fn new(bytes: &'a [u8]) -> Input<'a>
+        ensures lines { result.lines ≡ lines bytes.now }
+        ensures loose { result.loose ≡ loose bytes.now }
+        ensures line { result.line ≡ 1 }
+    {
+        Input {
+            ahead: bytes,
+            first: 1,
+        }
+    }
+
+    /// The number of its first line.
+    pub fn line(&self) -> usize
+        ensures is { result ≡ self.now.line }
+        ensures within { result ≤ 2 ^ 63 }
+    {
+        self.first
+    }
+
+    /// Whether nothing is left, not even a line that is not ended.
+    #[tactic(auto, using(crate::proofs::Ends::nothing_left))]
+    pub fn is_empty(&self) -> bool
+        ensures { result ≡ ((length self.now.lines == 0) && (length self.now.loose == 0)) }
+    {
+        self.ahead.is_empty()
+    }
+
+    /// The first line, and what is left after it.
+    pub(crate) fn next(&self) -> Option<(&'a [u8], Input<'a>)>
+        ensures { MatchOption result (self.now.lines ≡ []) (λ r. Follows self.now r.0.now r.1) }
+    {
+        let (line, ahead) = next_line(self.ahead)?;
+        Some((
+            line,
+            Input {
+                ahead,
+                first: self.line() + 1,
+            },
+        ))
+    }
+}

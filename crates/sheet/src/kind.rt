@@ -1,0 +1,49 @@
+//! A kind of row.
+ghost use Rattle.std.specs.Prelude.{◌≡◌, ◌<◌, ◌≤◌, ℕ, List, length, cond, true, Some, None};
+ghost use Rattle.std.specs.List.{list_all, slice_index_or};
+ghost use Rattle.text.specs.Cells.{Cell};
+ghost use Rattle.sheet.specs.Kinds.{Kind, numbered};
+
+use crate::cells::Cells;
+
+/// What a row says, and the columns that say it.
+pub trait RowKind {
+    type Row: Copy;
+
+    /// The mark of its sheet.
+    const MARK: [u8; 3];
+
+    ghost MARK: { List ℕ };
+
+    /// How many columns it needs.
+    const COLUMNS: usize;
+
+    ghost COLUMNS: { ℕ };
+
+    /// The names of those columns.
+    const NAMES: &'static [&'static [u8]];
+
+    ghost kind: { Kind Self.Row };
+
+    /// The name of a column that it needs.
+    fn name(column: usize) -> &'static [u8]
+        requires { column < COLUMNS }
+        ensures { result.now ≡ numbered kind.needed column };
+
+    /// Whether the cell of a column that it needs fits.
+    fn fits(column: usize, cells: &Cells<'_, '_>) -> bool
+        requires { column < COLUMNS }
+        ensures { result ≡ slice_index_or (kind.fits (numbered cells.now)) column true };
+
+    /// The row that the cells make, where each of them fits.
+    fn read(cells: &Cells<'_, '_>) -> Option<Self::Row>
+        ensures { result ≡ cond (list_all (λ fits. fits) (kind.fits (numbered cells.now))) (Some (kind.row (numbered cells.now))) None };
+
+    ghost marked: { MARK ≡ kind.mark };
+
+    ghost counted: { COLUMNS ≡ length kind.needed };
+
+    ghost few: { COLUMNS ≤ 32 };
+
+    ghost judged: { (cell : ℕ → Cell) → length (kind.fits cell) ≡ COLUMNS };
+}
