@@ -1,0 +1,23 @@
+-- What cells of several kinds of row say; none where a cell does not fit.
+use Rattle.std.specs.Prelude.{ℕ, Bool, [], Option, Some, None, if◌then◌else◌, nat_le}
+use Rattle.text.specs.Cells.{Cell}
+use Rattle.text.specs.Numbers.{number_in}
+use Rattle.quantities.specs.declared.isin.Isin.{Isin}
+use Rattle.quantities.specs.Isins.{is_isin}
+
+-- the last day number
+abbrev pub last_date : ℕ
+last_date = 65535
+
+unfoldable pub date_in : Cell → Option ℕ
+date_in cell = number_in 0 last_date cell
+
+unfoldable pub isin_in : Cell → Option Isin
+isin_in cell = if is_isin cell then Some (record { bytes = cell }) else None
+
+-- no bytes, in the place of an ISIN
+abbrev pub no_isin : Isin
+no_isin = record { bytes = [] }
+
+abbrev pub is_date : ℕ → Bool
+is_date date = nat_le date last_date

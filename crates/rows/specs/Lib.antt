@@ -1,0 +1,7 @@
+pub mod Forms
+pub mod Days
+pub mod Percentages
+pub mod Points
+pub mod Prices
+pub mod Positions
+pub mod Laws

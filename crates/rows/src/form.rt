@@ -1,0 +1,24 @@
+//! The cells that several kinds of row have.
+ghost use Rattle.std.specs.Prelude.{◌≡◌};
+ghost use Rattle.rows.specs.Forms.{date_in, isin_in};
+
+use quantities::date::Date;
+use quantities::isin::Isin;
+use text::number::number;
+
+/// A day number.
+#[tactic(auto, unfolding(crate::specs::Forms::date_in))]
+pub fn parse_date(cell: &[u8]) -> Option<Date>
+    ensures { result ≡ date_in cell.now }
+{
+    let date = number(cell, 0, u64::from(Date::MAX))?;
+    Some(date as Date)
+}
+
+/// An ISIN with its right check digit.
+#[tactic(auto, unfolding(crate::specs::Forms::isin_in))]
+pub fn parse_isin(cell: &[u8]) -> Option<Isin>
+    ensures { result ≡ isin_in cell.now }
+{
+    Isin::try_from(cell).ok()
+}

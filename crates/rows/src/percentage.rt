@@ -1,0 +1,83 @@
+//! The sheet of the margin percentages.
+ghost use Rattle.std.specs.Prelude.{◌≡◌, codes};
+ghost use Rattle.std.proofs.Common.{rules};
+ghost use Rattle.rows.specs.Percentages.{tranche_in, percentage_in, percentages};
+
+use quantities::range::MarginPercentage;
+use sheet::cells::Cells;
+use sheet::kind::RowKind;
+use text::number::number;
+
+/// The percentage of a tranche as it is handed.
+#[derive(Clone, Copy, PartialEq, Eq, Debug)]
+pub struct PercentageRow {
+    pub tranche: u8,
+    pub percentage: u16,
+}
+
+#[tactic(auto, unfolding(crate::specs::Percentages::tranche_in))]
+fn parse_tranche(cell: &[u8]) -> Option<u8>
+    ensures { result ≡ tranche_in cell.now }
+{
+    let tranche = number(cell, 1, 6)?;
+    Some(tranche as u8)
+}
+
+#[tactic(auto, unfolding(crate::specs::Percentages::percentage_in))]
+fn parse_percentage(cell: &[u8]) -> Option<u16>
+    ensures { result ≡ percentage_in cell.now }
+{
+    let percentage = number(cell, 0, u64::from(MarginPercentage::HIGHEST))?;
+    Some(percentage as u16)
+}
+
+const TRANCHE: usize = 0;
+
+const PCT: usize = 1;
+
+/// The kind of the rows of percentages.
+pub struct Percentages;
+
+impl RowKind for Percentages {
+    type Row = PercentageRow;
+
+    const MARK: [u8; 3] = *b"PAR";
+
+    ghost MARK = { codes "PAR" };
+
+    const COLUMNS: usize = 2;
+
+    ghost COLUMNS = { 2 };
+
+    const NAMES: &'static [&'static [u8]] = &[b"TRANCHE", b"PCT"];
+
+    ghost kind = { percentages };
+
+    fn name(column: usize) -> &'static [u8] {
+        Self::NAMES[column]
+    }
+
+    fn fits(column: usize, cells: &Cells<'_, '_>) -> bool {
+        let cell = cells.cell(column);
+        match column {
+            TRANCHE => parse_tranche(cell).is_some(),
+            PCT => parse_percentage(cell).is_some(),
+            _ => true,
+        }
+    }
+
+    fn read(cells: &Cells<'_, '_>) -> Option<PercentageRow> {
+        Some(PercentageRow {
+            tranche: parse_tranche(cells.cell(TRANCHE))?,
+            percentage: parse_percentage(cells.cell(PCT))?,
+        })
+    }
+
+    ghost marked = { Prim.search rules };
+
+    ghost counted = { Prim.search rules };
+
+    ghost few = { Prim.search rules };
+
+    ghost judged = { λ cell. Prim.search rules };
+}
