@@ -1,0 +1,8 @@
+//! The text of a margin's statement, in memory that the caller lends.
+#![tactic(auto)]
+
+pub mod laws;
+mod line;
+#[cfg(test)]
+mod tests;
+pub mod text;
