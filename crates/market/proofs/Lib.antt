@@ -1,2 +1,2 @@
-mod Added
+pub mod Added
 mod Room

@@ -1,0 +1,15 @@
+pub mod Points
+pub mod Made
+pub mod Parts
+pub mod Put
+pub mod Sheets
+pub mod Told
+pub mod RowKinds
+pub mod Loaded
+pub mod Promise
+pub mod Layers
+mod RowCount
+mod Stated
+mod Begun
+mod Loads
+mod Promised

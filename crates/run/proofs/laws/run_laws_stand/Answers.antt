@@ -1,0 +1,7 @@
+use Rattle.run.proofs.Loaded.{rows_law}
+use Rattle.run.proofs.Promise.{margin_law, statement_law}
+use Rattle.run.proofs.Layers.{refusals_law}
+use Rattle.run.proofs.laws.run_laws_stand.Goals as goal
+
+pub returns : goal.returns
+returns c = record { rows_law = rows_law; margin_law = margin_law; statement_law = statement_law; refusals_law = refusals_law }

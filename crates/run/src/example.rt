@@ -1,0 +1,7 @@
+//! Runs worked out by the definitions.
+ghost use Rattle.run.specs.Example.{Worked};
+
+/// The example runs come to what they should.
+pub fn example_stands()
+    ensures { Worked }
+{}

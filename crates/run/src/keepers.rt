@@ -1,0 +1,18 @@
+//! What keeps the rows of the five sheets.
+ghost use Rattle.std.specs.Prelude.{◌≡◌};
+ghost use Rattle.run.specs.Refusals.{referred};
+
+use account::call::LineRefusal;
+use quantities::refusal::Refusal;
+
+pub mod day;
+pub mod lines;
+pub mod points;
+pub mod quotes;
+
+// An answer to a row, with the reference by which the row is told: 0 where it has none.
+fn referred(reference: u32, answer: Result<(), Refusal>) -> Result<(), LineRefusal>
+    ensures { result ≡ referred reference answer }
+{
+    answer.map_err(|refusal| LineRefusal::of_line(reference, refusal))
+}

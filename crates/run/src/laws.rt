@@ -1,0 +1,14 @@
+//! The promise of a run: it is the contract of a function that does nothing else.
+ghost use Rattle.run.specs.Laws.{RowsLaw, MarginLaw, StatementLaw, RefusalsLaw};
+
+/// Each law is proved of the definitions.
+pub fn run_laws_stand()
+    // What is loaded is what the rows of the five sheets say under the names of their columns.
+    ensures rows_law { RowsLaw }
+    // A margin is that of the lines, never below the exact one, and above it by at most one cent for each rounded amount.
+    ensures margin_law { MarginLaw }
+    // A statement says such a margin.
+    ensures statement_law { StatementLaw }
+    // Each refusal is of one of four layers, with the numbers that the layer has, a line of the input, and the reference of the position on it.
+    ensures refusals_law { RefusalsLaw }
+{}

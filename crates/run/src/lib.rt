@@ -1,0 +1,11 @@
+//! A run: five sheets in, a statement or a refusal out.
+#![tactic(auto)]
+
+pub mod example;
+mod keeper;
+mod keepers;
+pub mod laws;
+pub mod refusal;
+pub mod run;
+mod state;
+mod through;

@@ -1,0 +1,80 @@
+//! The statement of an account whose sheets are read.
+ghost use Rattle.std.specs.Prelude.{◌≤◌, length};
+ghost use Rattle.book.specs.Books.{lines_of, room_for};
+ghost use Rattle.run.specs.Days.{row_of};
+ghost use Rattle.run.specs.Runs.{setting_of};
+ghost use Rattle.run.specs.Answers.{Ran, Stated, account_of, stated_for};
+ghost use Rattle.valuation.specs.Statements.{States};
+
+use crate::keepers::day::KeptDay;
+use crate::refusal::RunRefusal;
+use crate::run::MOST_LINES;
+use account::call::{LineRefusal, Margin};
+use account::row::{Row, Scope};
+use book::book::Book;
+use curve::point::points::Points;
+use curve::sloping::SlopingCurve;
+use curve::step::StepCurve;
+use netting::{Gross, Net};
+use quantities::isin::Isin;
+use rows::day::{CurveShape, Mode};
+use statement::text::write_statement;
+use valuation::margin::Statement;
+
+// What a place for a row holds before one is written there.
+const NO_ROW: Row = Row {
+    isin: Isin { bytes: [0; 12] },
+    scope: Scope::CashOnlyLines,
+    initial_margin: 0,
+    variation_margin: 0,
+};
+
+// The margin of a book by the curve and the rule of its day, with the rows of its statement.
+fn margin_by_day(
+    day: &KeptDay,
+    points: &Points<'_>,
+    book: &Book<'_, '_, '_>,
+    rows: &mut [Row],
+) -> Result<Statement, LineRefusal>
+    ensures { States (setting_of (row_of day.now) book.now.market.now points.now.records) (lines_of book.now) rows.old rows.new result }
+{
+    let step = StepCurve { points };
+    let sloping = SlopingCurve { points };
+    match (day.curve, day.mode) {
+        (CurveShape::Step, Mode::Net) => book.statement(&step, &Net, rows),
+        (CurveShape::Step, Mode::Gross) => book.statement(&step, &Gross, rows),
+        (CurveShape::Sloping, Mode::Net) => book.statement(&sloping, &Net, rows),
+        (CurveShape::Sloping, Mode::Gross) => book.statement(&sloping, &Gross, rows),
+    }
+}
+
+// The margin of a book by its day, and the rows of its statement.
+fn stated_rows<'r>(
+    day: &KeptDay,
+    points: &Points<'_>,
+    book: &Book<'_, '_, '_>,
+    places: &'r mut [Row],
+) -> Result<(Margin, &'r [Row]), LineRefusal>
+    requires { length (lines_of book.now) ≤ length places.old }
+    ensures { Stated (account_of (row_of day.now) book.now.market.now points.now.records (lines_of book.now)) result }
+{
+    let given = margin_by_day(day, points, book, places)?;
+    Ok((given.margin, &places[..given.rows]))
+}
+
+/// Writes the statement of a book into a buffer, and answers its length.
+pub(crate) fn state(
+    day: &KeptDay,
+    points: &Points<'_>,
+    book: &Book<'_, '_, '_>,
+    buffer: &mut [u8],
+) -> Result<usize, RunRefusal>
+    requires { room_for book.now ≤ 1024 }
+    ensures { Ran (stated_for (length buffer.old) (account_of (row_of day.now) book.now.market.now points.now.records (lines_of book.now))) result buffer.old buffer.new }
+{
+    let mut places = [NO_ROW; MOST_LINES];
+    // an account has at most as many rows as lines
+    let places = &mut places[..book.lines().len()];
+    let (margin, rows) = stated_rows(day, points, book, places).map_err(RunRefusal::of_margin)?;
+    write_statement(rows, margin, buffer).map_err(RunRefusal::whole)
+}

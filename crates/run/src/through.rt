@@ -1,0 +1,62 @@
+//! A sheet, read to its end.
+ghost use Rattle.std.specs.Prelude.{◌≡◌, Ok, Err, MatchResult};
+ghost use Rattle.run.specs.Refusals.{told_refusal};
+ghost use Rattle.run.specs.Through.{rest_kept, sheet_kept, at_trailer};
+
+use crate::keeper::Keeper;
+use crate::refusal::RunRefusal;
+use sheet::input::Input;
+use sheet::kind::RowKind;
+use sheet::reading::Reading;
+
+/// How many rows a sheet had, and what is left behind its trailer.
+#[derive(Drop)]
+pub struct Through<'a> {
+    pub rows: usize,
+    pub left: Input<'a>,
+}
+
+// Keeps the rows that are left, up to the trailer.
+fn keep_rows<'a, K: RowKind, T: Keeper<K::Row>>(
+    reading: &mut Reading<'a, K>,
+    keeper: &mut T,
+) -> Result<(), RunRefusal>
+    ensures frame { T.frame keeper.new ≡ T.frame keeper.old }
+    ensures answer { MatchResult result
+        (λ _. rest_kept K.kind T.keeping reading.old.left.lines reading.old (T.kept keeper.old) ≡ at_trailer (T.kept keeper.new) reading.new)
+        (λ e. rest_kept K.kind T.keeping reading.old.left.lines reading.old (T.kept keeper.old) ≡ Err (told_refusal e)) }
+{
+    loop {
+        let line = reading.line();
+        match reading.row()? {
+            Some(row) => keeper
+                .keep(row)
+                .map_err(|refused| RunRefusal::of_row(line, refused))?,
+            None => return Ok(()),
+        }
+    }
+}
+
+/// Reads a sheet to its end and keeps its rows.
+pub fn keep_sheet<'a, K: RowKind, T: Keeper<K::Row>>(
+    input: &Input<'a>,
+    keeper: &mut T,
+) -> Result<Through<'a>, RunRefusal>
+    ensures frame { T.frame keeper.new ≡ T.frame keeper.old }
+    ensures answer { MatchResult result
+        (λ t. sheet_kept K.kind T.keeping (T.kept keeper.old) input.now ≡ Ok (record { kept = T.kept keeper.new; rows = t.rows; left = t.left }))
+        (λ e. sheet_kept K.kind T.keeping (T.kept keeper.old) input.now ≡ Err (told_refusal e)) }
+{
+    let mut reading = input.open::<K>()?;
+    match keep_rows(&mut reading, keeper) {
+        Ok(()) => {
+            let rows = reading.rows();
+            let left = reading.close()?;
+            Ok(Through { rows, left })
+        }
+        Err(refusal) => {
+            reading.give_up();
+            Err(refusal)
+        }
+    }
+}
