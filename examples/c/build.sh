@@ -1,0 +1,15 @@
+#!/usr/bin/env bash
+# Proves and builds the static library, builds the example in C with it, and runs it on the example run.
+set -euo pipefail
+cd "$(dirname "${BASH_SOURCE[0]}")/../.."
+
+(cd crates/margin_c && rt lib) >&2
+mkdir -p out
+for name in margin_example margin_edges; do
+    cc -std=c11 -O2 -Wall -Wextra -Werror -Iinclude \
+        -o "out/$name" "examples/c/$name.c" crates/margin_c/out/libmargin_c.a
+done
+
+out/margin_edges examples/run.txt
+out/margin_example examples/run.txt | tee out/statement.txt
+diff examples/statement.txt out/statement.txt
