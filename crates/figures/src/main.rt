@@ -4,8 +4,10 @@
 use std::io;
 
 mod day;
+mod list;
 
 fn main(rt: HostRuntime) -> io::Result<()> {
+    list::all_figures_stand();
     specimen::program::run(&rt)?;
     println!(&rt; "")?;
     day::show_day(&rt)
