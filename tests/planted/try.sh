@@ -1,7 +1,8 @@
 #!/usr/bin/env bash
 # Plants bugs in copies of the crates, one at a time, and says of each what the prover makes of it:
 #   fact      refused because a fact in the code fails
-#   proofs    refused, but first at a proof file that the edit made unfit, which shows little
+#   proofs    refused because an answer in a proof file no longer is one
+#   unfit     refused only because a proof file names what the edit took away, which shows little
 #   PROVED    let through: a contract says too little
 #   bad       no longer an edit of its file
 # usage: tests/planted/try.sh [CRATE..]      without names: every crate that has a folder here
@@ -22,6 +23,7 @@ for crate in "$@"; do
     (cd "$copy" && rt must-fail "$crate" 2>&1) | sed -nE \
         -e 's/^rt: must-fail ([^:]*)\.edit: refused, as it must be: (note: )?src\/(.*)/fact    \1  \3/p' \
         -e 's/^rt: must-fail ([^:]*)\.edit: refused, as it must be: (.*)/proofs  \1  \2/p' \
+        -e 's/^rt: must-fail ([^:]*)\.edit: refused, as it must be \(only because.*/unfit   \1/p' \
         -e '/^rt: must-fail .*refused, as it must be/d' \
         -e 's/^rt: must-fail ([^:]*)\.edit: (.*(BAD|NOT TRIED).*)/bad     \1  \2/p' \
         -e '/BAD EDIT|NOT TRIED/d' \
