@@ -1,3 +1,5 @@
 pub mod Decided
 pub mod Rounded
+mod Shape
 mod Weights
+mod Words

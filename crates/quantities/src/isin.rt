@@ -1,7 +1,11 @@
 //! The ISIN of ISO 6166: two letters, nine letters or digits, and a check digit.
-ghost use Rattle.std.specs.Prelude.{◌≡◌, ◌+◌, ◌*◌, ◌/◌, ◌%◌, ◌≤◌, if◌then◌else◌};
+ghost use Rattle.std.specs.Prelude.{◌≡◌, ◌-◌, ◌<◌, ◌≤◌, if◌then◌else◌, IsTrue, [], ◌∷◌, reverse, take, drop, ℕ, length, slice_index, bytes_eq};
+ghost use Rattle.std.specs.Cmp.{on_equiv, on_per, partial_equiv_from_equiv};
+ghost use Rattle.std.specs.Cmp.Lexicographic.{nat_list_eq_equiv};
+ghost use Rattle.std.specs.Int.{w32, w64, from_le_bytes};
+ghost use Rattle.std.specs.List.{list_all};
 ghost use Rattle.quantities.specs.Checked.{told};
-ghost use Rattle.quantities.specs.Isins.{isin_shaped, check_sum, is_isin, isin_in};
+ghost use Rattle.quantities.specs.Isins.{is_digit, is_letter_or_digit, isin_shaped, written_out, second_doubled, digits_added, check_sum, is_isin, isin_in};
 
 use crate::refusal::Refusal;
 use std::fmt;
@@ -12,49 +16,106 @@ pub const LENGTH: usize = 12;
 // A letter's byte less its number: A is 10.
 const BEFORE_LETTERS: u8 = b'A' - 10;
 
+// What the digits of 0 to 35 add to the check sum: first where the last digit is not doubled, then where it is.
+const WEIGHTS: [[u8; 36]; 2] = [
+    [
+        0, 1, 2, 3, 4, 5, 6, 7, 8, 9, 2, 3, 4, 5, 6, 7, 8, 9, 10, 11, 4, 5, 6, 7, 8, 9, 10, 11, 12,
+        13, 6, 7, 8, 9, 10, 11,
+    ],
+    [
+        0, 2, 4, 6, 8, 1, 3, 5, 7, 9, 1, 3, 5, 7, 9, 2, 4, 6, 8, 10, 2, 4, 6, 8, 10, 3, 5, 7, 9,
+        11, 3, 5, 7, 9, 11, 4,
+    ],
+];
+
 /// Twelve bytes in the place of an ISIN.
-#[derive(Clone, Copy, Debug, PartialEq, Eq, Hash, PartialOrd, Ord)]
+#[derive(Clone, Copy, Debug, Eq, Hash, PartialOrd, Ord)]
 pub struct Isin {
     pub bytes: [u8; LENGTH],
+}
+
+// The first eight bytes and the last four, each as a number.
+fn words(bytes: &[u8; LENGTH]) -> (u64, u32)
+    ensures first { result.0 ≡ from_le_bytes w64 (take 8 bytes.now) }
+    ensures last { result.1 ≡ from_le_bytes w32 (drop 8 bytes.now) }
+    ensures count { length bytes.now ≡ 12 }
+    ensures small { (i : ℕ) → slice_index bytes.now i < 256 }
+{
+    let [a, b, c, d, e, f, g, h, i, j, k, l] = *bytes;
+    (
+        u64::from_le_bytes([a, b, c, d, e, f, g, h]),
+        u32::from_le_bytes([i, j, k, l]),
+    )
+}
+
+// By words: the derived test calls the library's comparison of slices.
+impl PartialEq for Isin {
+    ghost eq = { λ i j. bytes_eq i.bytes j.bytes };
+
+    ghost laws = { on_per (λ i. i.bytes) (partial_equiv_from_equiv nat_list_eq_equiv) };
+
+    fn eq(&self, other: &Isin) -> bool {
+        words(&self.bytes) == words(&other.bytes)
+    }
+}
+
+// Looks at every byte: an end at the first misfit would cost a branch for each.
+fn all_letters_or_digits(bytes: &[u8]) -> bool
+    ensures { result ≡ list_all is_letter_or_digit bytes.now }
+{
+    bytes.iter().fold(true, |fits, byte| {
+        fits & (byte.is_ascii_uppercase() | byte.is_ascii_digit())
+    })
 }
 
 fn is_shaped(bytes: &[u8; LENGTH]) -> bool
     ensures { result ≡ isin_shaped bytes.now }
 {
     let country = bytes[..2].iter().all(u8::is_ascii_uppercase);
-    let security = bytes[2..11]
-        .iter()
-        .all(|byte| byte.is_ascii_uppercase() || byte.is_ascii_digit());
+    let security = all_letters_or_digits(&bytes[2..11]);
     country && security && bytes[11].is_ascii_digit()
 }
 
-// The digits of a number below 100, or of its double.
-fn weight(number: u8, doubled: bool) -> u32
-    ensures is { let n = (if doubled then 2 * number else number) in result ≡ n / 10 + n % 10 }
-    ensures small { result ≤ 60 }
+// Whether a digit or a letter is written out as one digit.
+fn is_one_digit(byte: u8) -> bool
+    requires { IsTrue (is_letter_or_digit byte) }
+    ensures { result ≡ is_digit byte }
 {
-    let counted = if doubled {
-        2 * u32::from(number)
+    byte <= b'9'
+}
+
+// The number that a digit or a letter stands for.
+fn number(byte: u8) -> u8
+    requires { IsTrue (is_letter_or_digit byte) }
+    ensures is { result ≡ (if is_digit byte then byte - 48 else byte - 55) }
+    ensures small { result < 36 }
+{
+    if is_one_digit(byte) {
+        byte - b'0'
     } else {
-        u32::from(number)
-    };
-    counted / 10 + counted % 10
+        byte - BEFORE_LETTERS
+    }
+}
+
+// What a digit or a letter adds to the check sum, where its last digit is doubled or not.
+fn weight(byte: u8, doubled: bool) -> u32
+    requires { IsTrue (is_letter_or_digit byte) }
+    ensures is { let digits = reverse (written_out (byte ∷ [])) in result ≡ digits_added (second_doubled (if doubled then 0 ∷ digits else digits)) }
+    ensures small { result ≤ 255 }
+{
+    u32::from(WEIGHTS[usize::from(doubled)][usize::from(number(byte))])
 }
 
 fn check_sum(bytes: &[u8; LENGTH]) -> u32
+    requires { IsTrue (isin_shaped bytes.now) }
     ensures { result ≡ check_sum bytes.now }
 {
     let mut sum = 0;
     let mut doubled = false;
     for &byte in bytes.iter().rev() {
-        if byte.is_ascii_digit() {
-            sum += weight(byte - b'0', doubled);
-            doubled = !doubled;
-        } else {
-            // a letter is two digits, so the next digit is doubled as this one was
-            let letter = byte.saturating_sub(BEFORE_LETTERS);
-            sum += weight(letter % 10, doubled) + weight(letter / 10, !doubled);
-        }
+        sum += weight(byte, doubled);
+        // a letter is two digits, so the next digit is doubled as its last one was
+        doubled = doubled != is_one_digit(byte);
     }
     sum
 }

@@ -4,7 +4,7 @@ use Rattle.std.proofs.Math.Bool.{and-true}
 use Rattle.std.proofs.lemmas.List.{at_drop_more}
 use Rattle.std.proofs.lemmas.Iterator.{YieldsList-from_slice}
 use Rattle.std.proofs.lemmas.Iterator.Search.{all_from_yields_List}
-use Rattle.quantities.specs.Isins.{is_letter, is_letter_or_digit, is_digit}
+use Rattle.quantities.specs.Isins.{is_letter, is_digit}
 use Rattle.quantities.proofs.isin.is_shaped.Goals as goal
 
 last_alone : (bs : List ℕ) → 11 < length bs → list_all is_digit (take 1 (drop 11 bs)) ≡ is_digit (get_or bs 11 0)
@@ -17,6 +17,5 @@ pub returns-then-security : goal.returns-then-security
 returns-then-security c =
     let bs = c.args.bytes.now in
     let country = all_from_yields_List is_letter _ _ c.all-country.result c.all-country.ensures.ran (YieldsList-from_slice (take 2 bs) cc) (λ x b q k. search (rules, tests)) in
-    let security = all_from_yields_List is_letter_or_digit _ _ c.all-security.result c.all-security.ensures.ran (YieldsList-from_slice (take 9 (drop 2 bs)) cc) (λ x b q k. search (rules, tests)) in
     c.is_ascii_digit.ensures.value
-    ∙ last_decides _ _ _ _ _ (eq-eqb (length bs) 12 (omega arith)) (sym country ∙ c.if-security.true.0) (sym security ∙ c.if-security.true.1) (last_alone bs (omega arith))
+    ∙ last_decides _ _ _ _ _ (eq-eqb (length bs) 12 (omega arith)) (sym country ∙ c.if-security.true.0) (sym c.all_letters_or_digits-security.ensures ∙ c.if-security.true.1) (last_alone bs (omega arith))
