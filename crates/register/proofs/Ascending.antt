@@ -1,11 +1,12 @@
 -- Records that ascend: what a search shows, and what stays so after a change.
-use Rattle.std.proofs.Common.{◌≡◌, ℕ, zero, suc, ◌+◌, ◌-◌, ◌<◌, ◌≤◌, true, false, ltb, List, [], ◌∷◌, length, get_or, Some, None, Ok, Err, sym, refl, ap, ◌∙◌, ⊎_elim, arith}
+use Rattle.std.proofs.Common.{◌≡◌, ℕ, zero, suc, ◌+◌, ◌-◌, ◌<◌, ◌≤◌, true, false, ltb, List, [], ◌∷◌, length, take, drop, get_or, Some, None, Ok, Err, sym, refl, ap, ◌∙◌, ⊎_elim, arith}
 use Rattle.std.proofs.lemmas.Bool.{cases_lt, cases_eq, lt-ltb, le-ltb, ltb-true, ltb-false, eq-eqb, ne_eqb}
 use Rattle.std.specs.List.{insert, remove}
+use Rattle.std.proofs.lemmas.List.{length-take-le, length-drop, get_or-take, get_or-drop}
 use Rattle.std.proofs.lemmas.List.Edits.{length-insert, get_or-insert_below, get_or-insert_at, get_or-insert_above, length-remove, get_or-remove_below, get_or-remove_above}
 use Rattle.register.specs.Keys.{found_by, has_rank, inserted_by, without, Ascends}
 use Rattle.std.specs.List.Sorted.{IsPartitionedBy, IsPartitionPoint}
-use Rattle.register.specs.Search.{Parts, Hits, Misses, Placed}
+use Rattle.register.specs.Search.{Parts, Hits, Misses, Placed, LastBelow, FirstAbove}
 
 -- the ranks rise between any two places
 abbrev pub Far : {X : Type 0} → (X → ℕ) → List X → Type 0
@@ -240,3 +241,23 @@ module _ {X : Type 0} (f : X → ℕ) where
           (cases_eq k p);
     } up,
   )
+
+  -- p parts xs into records of ranks below n and above it
+  pub placed_between : (n : ℕ) (xs : List X) (p : ℕ) → Ascends f xs → p ≤ length xs → LastBelow f n (take p xs) → FirstAbove f n (drop p xs) → Placed f n xs (Err p)
+  placed_between n xs p up l low high =
+      let many = length-take-le p xs l in
+      let rest = length-drop p xs in
+      let below : (d : X) → 0 < p → f (get_or xs (p - 1) d) < n = λ d m.
+      let h = low d (omega (arith, many)) in
+      let e : get_or (take p xs) (length (take p xs) - 1) d ≡ get_or xs (p - 1) d = ap (λ k. get_or (take p xs) (k - 1) d) many ∙ get_or-take p xs (p - 1) d (omega arith) in
+      rw e at h in
+      let above : (d : X) → p < length xs → n < f (get_or xs p d) = λ d m.
+      let h = high d (omega (arith, rest)) in
+      let e : get_or (drop p xs) 0 d ≡ get_or xs p d = get_or-drop p xs 0 d ∙ ap (λ k. get_or xs k d) (omega arith) in
+      rw e at h in
+      placed_miss n xs p up l (
+        λ k d m o. ranks_parted n xs up k (p - 1) d (omega arith) (omega arith) (lt-ltb _ n (below d (omega arith))),
+        λ k d m o. le-ltb _ n (⊎_elim (λ (e : k ≡ p). let h = above d (omega arith) in rw e (omega arith))
+            (λ ne. let h = above d (omega (arith, ne)) in let u = far xs up p k d (omega (arith, ne)) (omega arith) in omega arith) (cases_eq k p)),
+      )
+      (λ m d h. above d m)

@@ -1,10 +1,10 @@
 -- The order of the numbers that bytes spell is byte order.
-use Rattle.std.proofs.Common.{◌≡◌, ℕ, zero, suc, ◌+◌, ◌*◌, ◌<◌, ltb, List, [], ◌∷◌, sym, refl, ap, ◌∙◌, ⊎_elim, arith}
+use Rattle.std.proofs.Common.{◌≡◌, ℕ, zero, suc, ◌+◌, ◌*◌, ◌^◌, ◌<◌, ltb, List, [], ◌∷◌, sym, refl, ap, ◌∙◌, ⊎_elim, arith}
 use Rattle.std.proofs.lemmas.Bool.{cases_order, lt-ltb, le-ltb, eq-eqb, ne_eqb}
 use Rattle.std.specs.declared.cmp.Ordering.TheVariants.{Less, Equal, Greater}
 use Rattle.std.specs.declared.cmp.Ordering.{Ordering}
 use Rattle.std.specs.Cmp.Lexicographic.{slice_cmp}
-use Rattle.std.specs.Ordering.{nat_cmp}
+use Rattle.std.specs.Ordering.{nat_cmp, ordering_then}
 use Rattle.register.specs.Keys.{Compares}
 use Rattle.register.specs.Bytes.{value, Bytes, before, ByteOrder}
 
@@ -42,9 +42,30 @@ compared (suc n) a (x ∷ xs) (y ∷ ys) h k =
     rw (le-ltb x y (omega arith), ne_eqb x y (λ z. omega arith)) (value_less n (a * 256 + y) (a * 256 + x) ys xs (tail y ys k) (tail x xs h) (omega arith))))
     (cases_order x y)
 
--- keys of twelve bytes compare as the numbers that they spell
-pub twelve_compared : (xs ys : List ℕ) → Bytes 12 xs → Bytes 12 ys → Compares (value 0) xs ys (slice_cmp nat_cmp xs ys)
-twelve_compared xs ys h k = compared 12 0 xs ys h k
+-- one number, one list of twelve bytes
+same_bytes : (xs ys : List ℕ) → Bytes 12 xs → Bytes 12 ys → value 0 xs ≡ value 0 ys → xs ≡ ys
+same_bytes xs ys h k e = decided (slice_cmp nat_cmp xs ys) (compared 12 0 xs ys h k)
+  where
+    decided : (o : Ordering) → Compares (value 0) xs ys o → xs ≡ ys
+    decided Less l = absurd (omega arith)
+    decided Equal l = l
+    decided Greater l = absurd (omega arith)
+
+-- keys of twelve bytes compare as the numbers that they spell, here in two words each
+pub twelve_compared : (xs ys : List ℕ) (a b c d : ℕ) → Bytes 12 xs → Bytes 12 ys → value 0 xs ≡ a * 2 ^ 32 + b → value 0 ys ≡ c * 2 ^ 32 + d → b < 2 ^ 32 → d < 2 ^ 32 →
+    Compares (value 0) xs ys (ordering_then (nat_cmp a c) (nat_cmp b d))
+twelve_compared xs ys a b c d h k p q s t =
+    ⊎_elim
+    (λ (e : a ≡ c). rw (le-ltb a c (omega arith), eq-eqb a c e) (⊎_elim
+    (λ (f : b ≡ d). rw (le-ltb b d (omega arith), eq-eqb b d f) (same_bytes xs ys h k (omega arith)))
+    (⊎_elim
+    (λ (w : b < d). rw (lt-ltb b d w) (omega arith))
+    (λ (w : d < b). rw (le-ltb b d (omega arith), ne_eqb b d (λ z. omega arith)) (omega arith)))
+    (cases_order b d)))
+    (⊎_elim
+    (λ (w : a < c). rw (lt-ltb a c w) (omega arith))
+    (λ (w : c < a). rw (le-ltb a c (omega arith), ne_eqb a c (λ z. omega arith)) (omega arith)))
+    (cases_order a c)
 
 in_order : (n a : ℕ) (xs ys : List ℕ) → Bytes n xs → Bytes n ys → ltb (value a xs) (value a ys) ≡ before xs ys
 in_order n a [] [] h k = le-ltb a a (omega arith)

@@ -1,5 +1,5 @@
 -- What a search for a rank n among records that ascend has shown.
-use Rattle.std.specs.Prelude.{◌≡◌, ℕ, ◌<◌, ◌≤◌, true, false, List, length, take, drop, Some, None, Ok, Err, Result, slice_index_or}
+use Rattle.std.specs.Prelude.{◌≡◌, ℕ, ◌-◌, ◌<◌, ◌≤◌, true, false, List, length, take, drop, Some, None, Ok, Err, Result, slice_index_or}
 use Rattle.std.specs.List.{insert, remove}
 use Rattle.register.specs.Keys.{Ascends, found_by, has_rank, inserted_by, without, below_rank, from_rank}
 
@@ -29,3 +29,10 @@ pub record Misses {X : Type 0} (f : X → ℕ) (n : ℕ) (xs : List X) (p : ℕ)
 abbrev pub Placed : {X : Type 0} → (X → ℕ) → ℕ → List X → Result ℕ ℕ → Type 0
 Placed f n xs (Ok p) = (p < length xs) × Hits f n xs p
 Placed f n xs (Err p) = (p ≤ length xs) × Misses f n xs p
+
+-- the last record, if there is one, has a rank below n, and the first one a rank above it
+abbrev pub LastBelow : {X : Type 0} → (X → ℕ) → ℕ → List X → Type 0
+LastBelow {X} f n xs = (d : X) → 0 < length xs → f (slice_index_or xs (length xs - 1) d) < n
+
+abbrev pub FirstAbove : {X : Type 0} → (X → ℕ) → ℕ → List X → Type 0
+FirstAbove {X} f n xs = (d : X) → 0 < length xs → n < f (slice_index_or xs 0 d)

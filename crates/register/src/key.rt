@@ -1,5 +1,5 @@
 //! Keys, and the order in which records stand.
-ghost use Rattle.std.specs.Prelude.{ℕ};
+ghost use Rattle.std.specs.Prelude.{◌≡◌, ℕ, ◌+◌, ◌*◌, ◌^◌};
 ghost use Rattle.register.specs.Bytes.{value, Bytes, ByteOrder};
 ghost use Rattle.register.specs.Keys.{Compares};
 
@@ -48,6 +48,17 @@ impl Key for [u8; 12] {
     }
 }
 
+// The first eight bytes and the last four, each as a number.
+fn words(key: &[u8; 12]) -> (u64, u32)
+    ensures { value 0 key.now ≡ result.0 * 2 ^ 32 + result.1 }
+{
+    let [a, b, c, d, e, f, g, h, i, j, k, l] = *key;
+    (
+        u64::from_be_bytes([a, b, c, d, e, f, g, h]),
+        u32::from_be_bytes([i, j, k, l]),
+    )
+}
+
 // A function and no bare `cmp`: its contract is the rank, which the library's order does not have.
 /// Compares two keys of twelve bytes: the first byte in which they differ decides.
 pub fn byte_order(left: &[u8; 12], right: &[u8; 12]) -> Ordering
@@ -55,5 +66,7 @@ pub fn byte_order(left: &[u8; 12], right: &[u8; 12]) -> Ordering
     ensures bytes { (Bytes 12 left.now) × (Bytes 12 right.now) }
     ensures agrees { ByteOrder 12 }
 {
-    left.cmp(right)
+    let (first, last) = words(left);
+    let (other_first, other_last) = words(right);
+    first.cmp(&other_first).then(last.cmp(&other_last))
 }

@@ -1,14 +1,17 @@
-use Rattle.std.proofs.Common.{◌≡◌, ◌+◌, ◌-◌, get_or, ap, ◌∙◌, arith}
-use Rattle.register.proofs.Shifted.{opened_all}
+use Rattle.std.proofs.Common.{◌≡◌, ◌+◌, ◌-◌, length, set, drop, ◌∙◌, arith}
+use Rattle.std.proofs.lemmas.List.{length-set, length-drop, length-take-le}
+use Rattle.std.proofs.lemmas.Slice.{take-put_mid}
+use Rattle.register.proofs.Shifted.{turned_in}
 use Rattle.register.proofs.register.methods.insert_at.Goals as goal
 
 pub returns : goal.returns
 returns g c =
     let xs = c.args.places.now in
+    let used = c.args.used in
     let at = c.args.at in
-    let h = c.copy_within.ensures.by_index in
-    opened_all xs c.args.used at c.copy_within.new.self c.args.record (omega arith) (omega arith) record {
-      len = c.copy_within.ensures.len;
-      low = λ k d l. h.1 k d (omega arith);
-      high = λ k d l m. h.0 k d (omega arith) (omega arith) ∙ ap (λ j. get_or xs j d) (let e : at + (k - (at + 1)) ≡ k - 1 = omega arith in e);
-    }
+    let r = c.args.record in
+    let ys = c.rotate_right.new.self in
+    let all = set xs used r in
+    let long : length all ≡ length xs = length-set xs used r in
+    let many : length ys ≡ used + 1 - at = c.rotate_right.ensures.len ∙ length-take-le (used + 1 - at) (drop at all) (omega (arith, length-drop at all)) in
+    take-put_mid at (used + 1 - at) all ys (used + 1) (omega arith) (omega arith) ∙ turned_in xs used at r ys (omega arith) (omega arith) c.rotate_right.ensures.len c.rotate_right.ensures.by_index
