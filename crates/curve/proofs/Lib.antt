@@ -1,2 +1,3 @@
 mod Found
+mod Passed
 mod Sloped

@@ -1,6 +1,7 @@
 //! Points by term, in lent memory.
 ghost use Rattle.std.specs.Prelude.{◌≡◌, ◌≤◌, min, [], length};
 ghost use Rattle.register.specs.Keys.{Ascends, below_rank, from_rank};
+ghost use Rattle.register.specs.Search.{Parts};
 ghost use Rattle.curve.specs.Points.{Adds};
 
 use super::Point;
@@ -8,6 +9,9 @@ use quantities::range::Rate;
 use quantities::refusal::Refusal;
 use register::register::Register;
 use std::marker::Model;
+
+// How many points are passed at a time.
+const STRIDE: usize = 8;
 
 /// At most 64 points with different terms, ascending by term.
 #[derive(Drop)]
@@ -55,7 +59,8 @@ impl<'a> Points<'a> {
         ensures from { result.1.now ≡ from_rank (λ p. p.term) term self.now.records }
         ensures ascends { Ascends (λ p. p.term) self.now.records }
     {
-        self.list.split_at_key(term)
+        let points = self.records();
+        points.split_at(first_from(points, term))
     }
 
     /// Puts a point in by its term.
@@ -66,4 +71,20 @@ impl<'a> Points<'a> {
         let rate = Rate::try_from(rate)?;
         self.list.insert(Point::new(term, rate))
     }
+}
+
+// The place of the first point from a term on. Points are few: they are sooner passed than halved.
+fn first_from(points: &[Point], term: u16) -> usize
+    requires { Ascends (λ p. p.term) points.now }
+    ensures parts { Parts (λ p. p.term) term points.now result }
+    ensures within { result ≤ length points.now }
+{
+    let mut at = 0;
+    while points.len() - at >= STRIDE && points[at + STRIDE - 1].term < term {
+        at += STRIDE;
+    }
+    while at < points.len() && points[at].term < term {
+        at += 1;
+    }
+    at
 }
