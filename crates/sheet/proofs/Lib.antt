@@ -6,3 +6,4 @@ pub mod Numbering
 pub mod Readings
 pub mod Rows
 pub mod Split
+pub mod Front

@@ -1,6 +1,7 @@
 //! The cells of a row, by the columns that its kind needs.
 ghost use Rattle.std.specs.Prelude.{◌≡◌, ◌<◌, ◌≤◌, length, map, take, MatchOption};
 ghost use Rattle.text.specs.Cells.{cells};
+ghost use Rattle.text.specs.Ends.{Ends};
 ghost use Rattle.sheet.specs.Kinds.{numbered};
 ghost use Rattle.sheet.specs.Sheets.{under};
 
@@ -13,25 +14,31 @@ pub const MOST_COLUMNS: usize = 32;
 /// The cells of a row under the names that its kind needs, in the order of the kind.
 #[derive(Drop)]
 pub struct Cells<'r, 'a> {
-    cells: &'r [&'a [u8]],
+    line: &'a [u8],
+    ends: &'r [usize],
     places: &'r [u8],
 }
 
 impl<'r, 'a> Model for Cells<'r, 'a> {
-    ghost use Rattle.std.specs.Prelude.{List, map, ℕ};
+    ghost use Rattle.std.specs.Prelude.{List, ℕ};
+    ghost use Rattle.text.specs.Cells.{cells};
+    ghost use Rattle.text.specs.Ends.{Ends};
     ghost use Rattle.sheet.specs.Sheets.{under};
 
     ghost Value = { List (List ℕ) };
 
-    ghost view = { λ row. under row.places.now (map (λ cell. cell.now) row.cells.now) };
+    ghost view = { λ row. under row.places.now (cells row.line.now) };
+
+    ghost invariant = { λ row. Ends row.line.now row.ends.now };
 }
 
 impl<'r, 'a> Cells<'r, 'a> {
-    /// The cells that stand at the places.
-    pub(crate) fn new(cells: &'r [&'a [u8]], places: &'r [u8]) -> Self
-        ensures { result ≡ under places.now (map (λ cell. cell.now) cells.now) }
+    /// The cells of a line that stand at the places.
+    pub(crate) fn new(line: &'a [u8], ends: &'r [usize], places: &'r [u8]) -> Self
+        requires { Ends line.now ends.now }
+        ensures { result ≡ under places.now (cells line.now) }
     {
-        Cells { cells, places }
+        Cells { line, ends, places }
     }
 
     /// The cell of a needed column; empty where the kind has no such column.
@@ -41,10 +48,16 @@ impl<'r, 'a> Cells<'r, 'a> {
         let Some(&place) = self.places.get(column) else {
             return &[];
         };
-        match self.cells.get(usize::from(place)) {
-            Some(cell) => cell,
-            None => &[],
-        }
+        let place = usize::from(place);
+        let Some(&end) = self.ends.get(place) else {
+            return &[];
+        };
+        let start = if place == 0 {
+            0
+        } else {
+            self.ends[place - 1] + 1
+        };
+        &self.line[start..end]
     }
 }
 

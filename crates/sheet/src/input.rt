@@ -1,9 +1,12 @@
 //! What is left of an input.
-ghost use Rattle.std.specs.Prelude.{◌≡◌, ◌≤◌, ◌^◌, [], length, ◌==◌, ◌&&◌, MatchOption};
+ghost use Rattle.std.specs.Prelude.{◌≡◌, ◌<◌, ◌≤◌, ◌^◌, [], ◌∷◌, length, take, ◌==◌, ◌&&◌, MatchOption};
+ghost use Rattle.text.specs.Cells.{cells};
+ghost use Rattle.text.specs.Ends.{Ends};
 ghost use Rattle.text.specs.Lines.{lines, loose};
 ghost use Rattle.sheet.specs.Sheets.{Follows};
 
 use std::marker::Model;
+use text::ends::cell_ends;
 use text::line::next_line;
 
 /// The part of an input that is still to be read, and the number of its first line, counted from 1 over the whole input.
@@ -66,5 +69,13 @@ impl<'a> Input<'a> {
                 first: self.line() + 1,
             },
         ))
+    }
+
+    /// The ends of the cells of the first line, put into the room; none where there are more cells than room.
+    pub(crate) fn cell_ends<'r>(&self, line: &[u8], room: &'r mut [usize]) -> Option<&'r [usize]>
+        requires { take 1 self.now.lines ≡ line.now ∷ [] }
+        ensures { MatchOption result (length room.old < length (cells line.now)) (λ r. Ends line.now r.now) }
+    {
+        cell_ends(self.ahead, line.len(), room)
     }
 }

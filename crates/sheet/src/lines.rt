@@ -3,7 +3,7 @@ ghost use Rattle.std.specs.Prelude.{◌≡◌, ◌&&◌};
 ghost use Rattle.text.specs.Cells.{cells};
 ghost use Rattle.sheet.specs.Sheets.{is_top, is_trailer, counts};
 
-use text::cell::{next_cell, two_cells};
+use text::cell::two_cells;
 use text::number::number;
 
 /// Whether a line has a mark and a version that is read.
@@ -20,8 +20,7 @@ pub(crate) fn is_top(line: &[u8], mark: [u8; 3]) -> bool
 pub(crate) fn is_trailer(line: &[u8]) -> bool
     ensures { result ≡ is_trailer line.now }
 {
-    let (first, _) = next_cell(line);
-    first == b"END".as_slice()
+    matches!(line, b"END" | [b'E', b'N', b'D', b';', ..])
 }
 
 /// Whether a line is a trailer that counts so many rows.

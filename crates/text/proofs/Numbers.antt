@@ -1,27 +1,38 @@
--- The number that a cell spells, byte by byte.
-use Rattle.std.proofs.Common.{◌≡◌, ℕ, ◌+◌, ◌-◌, ◌*◌, ◌<◌, ◌≤◌, List, [], ◌∷◌, length, drop, get_or, Option, Some, None, ℤ, pos, neg_ℤ, ◌^◌, sym, refl, ap, ◌∙◌, arith}
+-- The number that digits write, byte by byte.
+use Rattle.std.proofs.Common.{◌≡◌, ℕ, suc, ◌+◌, ◌-◌, ◌*◌, ◌<◌, ◌≤◌, List, [], ◌∷◌, length, drop, get_or, Option, Some, None, ℤ, pos, neg_ℤ, ◌^◌, sym, refl, ap, ◌∙◌, arith}
 use Rattle.std.specs.Option.{option_and_then}
+use Rattle.std.proofs.Math.Nat.{pow-succ', pow-le-pow_right}
 use Rattle.std.proofs.lemmas.Bool.Decides.{nat_tests}
 use Rattle.std.proofs.lemmas.List.{at_drop_more, at_drop_all}
 use Rattle.std.proofs.lemmas.Option.{cond_some}
-use Rattle.text.specs.Numbers.{digit, written, number, within, number_in, signed_number, within_signed, signed_number_in}
+use Rattle.text.specs.Numbers.{digit, written, within, signed_number, within_signed, signed_number_in}
 
--- the bytes of a cell are read up to i, and write n
+-- digits are read up to i, and write n
 abbrev pub Read : List ℕ → ℕ → ℕ → Type 0
-Read cell i n = written n (drop i cell) ≡ number cell
+Read digits i n = written n (drop i digits) ≡ written 0 digits
 
-module _ (cell : List ℕ) (i n : ℕ) (read : Read cell i n) where
-  next : i < length cell → written n (drop i cell) ≡ option_and_then (λ d. written (n * 10 + d) (drop (i + 1) cell)) (digit (get_or cell i 0))
-  next l = at_drop_more (written n) cell i 0 l
+module _ (digits : List ℕ) (i n : ℕ) (read : Read digits i n) where
+  next : i < length digits → written n (drop i digits) ≡ option_and_then (λ d. written (n * 10 + d) (drop (i + 1) digits)) (digit (get_or digits i 0))
+  next l = at_drop_more (written n) digits i 0 l
 
-  pub more : (d : ℕ) → i < length cell → Some d ≡ digit (get_or cell i 0) → Read cell (i + 1) (n * 10 + d)
-  more d l e = ap (option_and_then (λ d. written (n * 10 + d) (drop (i + 1) cell))) e ∙ (sym (next l) ∙ read)
+  pub more : (d : ℕ) → i < length digits → Some d ≡ digit (get_or digits i 0) → Read digits (i + 1) (n * 10 + d)
+  more d l e = ap (option_and_then (λ d. written (n * 10 + d) (drop (i + 1) digits))) e ∙ (sym (next l) ∙ read)
 
-  pub none : i < length cell → None ≡ digit (get_or cell i 0) → number cell ≡ None
-  none l e = sym read ∙ (next l ∙ ap (option_and_then (λ d. written (n * 10 + d) (drop (i + 1) cell))) (sym e))
+  pub none : i < length digits → None ≡ digit (get_or digits i 0) → written 0 digits ≡ None
+  none l e = sym read ∙ (next l ∙ ap (option_and_then (λ d. written (n * 10 + d) (drop (i + 1) digits))) (sym e))
 
-  pub whole : length cell ≤ i → number cell ≡ Some n
-  whole l = sym read ∙ at_drop_all (written n) cell i l
+  pub whole : length digits ≤ i → written 0 digits ≡ Some n
+  whole l = sym read ∙ at_drop_all (written n) digits i l
+
+-- one digit more
+pub grows : (n d i : ℕ) → n < 10 ^ i → d < 10 → n * 10 + d < 10 ^ (i + 1)
+grows n d i l m =
+    let e : i + 1 ≡ suc i = omega arith in
+    rw e (omega (arith, pow-succ' 10 i))
+
+-- the number of so few digits is below 2^64
+pub fits : (n d i : ℕ) → n < 10 ^ i → d < 10 → i < 19 → n * 10 + d < 2 ^ 64
+fits n d i l m s = omega (arith, grows n d i l m, pow-le-pow_right {n = 10} (omega arith) {i = i + 1} {j = 19} (omega arith))
 
 written_past : (low high n : ℕ) (bs : List ℕ) → high < n → option_and_then (within low high) (written n bs) ≡ None
 written_past low high n [] h = grind (arith, nat_tests)
@@ -29,8 +40,13 @@ written_past low high n (b ∷ bs) h =
     elim (digit b) as (λ o. option_and_then (within low high) (option_and_then (λ d. written (n * 10 + d) bs) o) ≡ None)
     [ None ↦ refl | Some d ↦ written_past low high (n * 10 + d) bs (omega arith) ]
 
-pub past : (low high : ℕ) (cell : List ℕ) (i n : ℕ) → Read cell i n → high < n → number_in low high cell ≡ None
-past low high cell i n read h = ap (option_and_then (within low high)) (sym read) ∙ written_past low high n (drop i cell) h
+pub past : (high : ℕ) (digits : List ℕ) (i n : ℕ) → Read digits i n → high < n → option_and_then (within 0 high) (written 0 digits) ≡ None
+past high digits i n read h = ap (option_and_then (within 0 high)) (sym read) ∙ written_past 0 high n (drop i digits) h
+
+-- what is at most the higher of two bounds is judged by the lower alone
+pub judged_once : (low high most : ℕ) (o : Option ℕ) → high ≤ most → option_and_then (within low high) (option_and_then (within 0 most) o) ≡ option_and_then (within low high) o
+judged_once low high most None l = refl
+judged_once low high most (Some n) l = grind (arith, nat_tests)
 
 read_within : (low high x : ℤ) (o : Option ℤ) → option_and_then (within_signed low high) o ≡ Some x → o ≡ Some x
 read_within low high x None e = cc

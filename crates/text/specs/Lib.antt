@@ -1,5 +1,6 @@
 pub mod Parts
 pub mod Lines
 pub mod Cells
+pub mod Ends
 pub mod Numbers
 pub mod Laws

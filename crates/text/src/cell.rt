@@ -4,7 +4,7 @@ ghost use Rattle.text.specs.Cells.{cells, cells_after};
 
 use crate::part::next_part;
 
-const SEMICOLON: u8 = b';';
+pub(crate) const SEMICOLON: u8 = b';';
 
 /// The first cell, and what follows its semicolon if there is one.
 pub fn next_cell(line: &[u8]) -> (&[u8], Option<&[u8]>)

@@ -2,9 +2,11 @@
 #![tactic(auto)]
 
 pub mod cell;
+pub mod ends;
 pub mod laws;
 pub mod line;
 pub mod number;
 mod part;
 #[cfg(test)]
 mod tests;
+mod window;

@@ -1,10 +1,11 @@
 //! The numbers that cells spell; each has one spelling.
-ghost use Rattle.std.specs.Prelude.{◌≡◌, ◌≤◌, ◌≤ℤ◌, ◌-◌, ◌^◌, pos, neg_ℤ, IfSome, option_map};
-ghost use Rattle.text.specs.Numbers.{digit, number_in, signed_number_in};
+ghost use Rattle.std.specs.Prelude.{◌≡◌, ◌<◌, ◌≤◌, ◌≤ℤ◌, ◌-◌, ◌^◌, length, pos, neg_ℤ, IfSome, option_map, option_and_then};
+ghost use Rattle.text.specs.Numbers.{digit, written, within, number_in, signed_number_in};
 
 // The digit that a byte writes.
 fn digit(byte: u8) -> Option<u64>
-    ensures { result ≡ digit byte }
+    ensures is { result ≡ digit byte }
+    ensures small { IfSome result (λ d. d < 10) }
 {
     match byte {
         b'0'..=b'9' => Some(u64::from(byte - b'0')),
@@ -12,8 +13,36 @@ fn digit(byte: u8) -> Option<u64>
     }
 }
 
-/// The whole number from `low` to `high` that a cell spells.
+// So many digits write a number below 2^64, whatever they are.
+const SURE_DIGITS: usize = 19;
+
+// The number that at most 19 digits write.
 #[tactic(auto, using(crate::proofs::Numbers::more, crate::proofs::Numbers::none, crate::proofs::Numbers::whole))]
+fn few_digits(digits: &[u8]) -> Option<u64>
+    requires { length digits.now ≤ 19 }
+    ensures { result ≡ written 0 digits.now }
+{
+    let mut number: u64 = 0;
+    for byte in digits {
+        number = number * 10 + digit(*byte)?;
+    }
+    Some(number)
+}
+
+// The number that digits write, if it is below 2^64.
+#[tactic(auto, using(crate::proofs::Numbers::more, crate::proofs::Numbers::none, crate::proofs::Numbers::whole))]
+fn many_digits(digits: &[u8]) -> Option<u64>
+    ensures { result ≡ option_and_then (within 0 (2 ^ 64 - 1)) (written 0 digits.now) }
+{
+    let mut number: u64 = 0;
+    for byte in digits {
+        let digit = digit(*byte)?;
+        number = number.checked_mul(10)?.checked_add(digit)?;
+    }
+    Some(number)
+}
+
+/// The whole number from `low` to `high` that a cell spells.
 pub fn number(cell: &[u8], low: u64, high: u64) -> Option<u64>
     ensures is { result ≡ number_in low high cell.now }
     ensures within { IfSome result (λ n. (low ≤ n) × (n ≤ high)) }
@@ -21,11 +50,11 @@ pub fn number(cell: &[u8], low: u64, high: u64) -> Option<u64>
     if let [] | [b'0', _, ..] = cell {
         return None;
     }
-    let mut number: u64 = 0;
-    for byte in cell {
-        let digit = digit(*byte)?;
-        number = number.checked_mul(10)?.checked_add(digit)?;
-    }
+    let number = if cell.len() <= SURE_DIGITS {
+        few_digits(cell)?
+    } else {
+        many_digits(cell)?
+    };
     (low..=high).contains(&number).then_some(number)
 }
 

@@ -3,10 +3,18 @@ ghost use Rattle.std.specs.Prelude.{◌≡◌, ◌<◌, ◌∷◌, ◌==◌, len
 ghost use Rattle.std.specs.List.{position};
 ghost use Rattle.text.specs.Parts.{parts, parts_after};
 
-// The place of the first separator.
-fn position(bytes: &[u8], separator: u8) -> Option<usize>
+use crate::window::{WINDOW, lowest, marks};
+
+// The place of the first separator, which is most often among the bytes in front.
+pub(crate) fn position(bytes: &[u8], separator: u8) -> Option<usize>
     ensures { result ≡ position (λ b. b == separator) bytes.now }
 {
+    if bytes.len() >= WINDOW {
+        let marks = marks(bytes, separator);
+        if marks != 0 {
+            return Some(lowest(marks));
+        }
+    }
     bytes.iter().position(|&b| b == separator)
 }
 

@@ -1,5 +1,6 @@
 //! The edges of lines, cells and numbers.
 use crate::cell::*;
+use crate::ends::*;
 use crate::line::*;
 use crate::number::*;
 
@@ -94,4 +95,31 @@ fn a_minus_stands_before_a_negative_number(rt: HostRuntime) {
         signed_number(b"2147483648".as_slice(), i32::MIN, i32::MAX),
         None
     );
+}
+
+/// Whether the cells of the line before the place end there; none where the room is too small.
+fn ends_are(text: &[u8], end: usize, ends: Option<&[usize]>) -> bool {
+    let mut room = [0; 4];
+    end <= text.len() && cell_ends(text, end, &mut room) == ends
+}
+
+#[test]
+fn cells_end_before_their_semicolons(rt: HostRuntime) {
+    let short = b"12;;B\n7".as_slice();
+    assert!(rt; ends_are(short, 5, Some([2, 3, 5].as_slice())));
+    assert!(rt; ends_are(short, 3, Some([2, 3].as_slice())));
+    assert!(rt; ends_are(short, 0, Some([0].as_slice())));
+    assert!(rt; ends_are(b";;;".as_slice(), 3, Some([0, 1, 2, 3].as_slice())));
+    assert!(rt; ends_are(b";;;;".as_slice(), 4, None));
+}
+
+#[test]
+fn cells_end_so_too_where_many_bytes_follow(rt: HostRuntime) {
+    let long =
+        b"12;;B\n7;;;;;;;;;;;;;;;;;;;;;;;;;;;;;;;;;;;;;;;;;;;;;;;;;;;;;;;;;;;;;;8;9;\n".as_slice();
+    assert!(rt; ends_are(long, 5, Some([2, 3, 5].as_slice())));
+    assert!(rt; ends_are(long, 0, Some([0].as_slice())));
+    assert!(rt; ends_are(long, 8, Some([2, 3, 7, 8].as_slice())));
+    assert!(rt; ends_are(long, 9, None));
+    assert!(rt; ends_are(long, long.len(), None));
 }

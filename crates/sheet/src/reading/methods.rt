@@ -1,9 +1,9 @@
 //! The rows of a sheet, and its end.
-ghost use Rattle.std.specs.Prelude.{◌≡◌};
+ghost use Rattle.std.specs.Prelude.{◌≡◌, [], ◌∷◌, take};
 ghost use Rattle.text.specs.Cells.{cells};
 ghost use Rattle.sheet.specs.Sheets.{row_of, next_row, after_row, closed};
 
-use crate::cells::{Cells, MOST_COLUMNS, split};
+use crate::cells::{Cells, MOST_COLUMNS};
 use crate::input::Input;
 use crate::kind::RowKind;
 use crate::lines::{counts, is_trailer};
@@ -13,15 +13,16 @@ use crate::row::made;
 use quantities::refusal::Refusal;
 
 impl<'a, K: RowKind> Reading<'a, K> {
-    /// What the line of a row says.
+    /// What the next line says, which is a row's.
     fn row_of(&self, line: &[u8]) -> Result<K::Row, SheetRefusal>
+        requires { take 1 self.now.left.lines ≡ line.now ∷ [] }
         ensures { result ≡ row_of K.kind self.now (cells line.now) }
     {
-        let mut room: [&[u8]; MOST_COLUMNS] = [&[]; MOST_COLUMNS];
+        let mut room = [0; MOST_COLUMNS];
         let places = &self.columns.places[..K::COLUMNS];
-        match split(line, &mut room) {
-            Some(cells) if cells.len() == self.columns.width => made::<K>(
-                &Cells::new(cells, places),
+        match self.left.cell_ends(line, &mut room) {
+            Some(ends) if ends.len() == self.columns.width => made::<K>(
+                &Cells::new(line, ends, places),
                 places,
                 self.line(),
             ),

@@ -1,0 +1,6 @@
+use Rattle.std.proofs.Common.{◌<◌, ◌^◌}
+use Rattle.text.proofs.Numbers.{Read}
+use Rattle.text.proofs.number.many_digits.Given as goal
+
+abbrev pub invariant-loop-byte : goal.invariant-loop-byte
+invariant-loop-byte l = Read l.digits l.byte-index l.number × (l.number < 2 ^ 64)

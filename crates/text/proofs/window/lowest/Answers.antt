@@ -1,0 +1,8 @@
+use Rattle.std.proofs.Common.{arith, w64}
+use Rattle.std.proofs.lemmas.Nat.Bits.{bit_at-trailing_zeros}
+use Rattle.text.proofs.window.lowest.Goals as goal
+
+pub returns : goal.returns
+returns c =
+    let h = bit_at-trailing_zeros w64 c.args.marks (omega (arith, c.requires)) c.ranges.marks.fits in
+    record { bound = h.0; set = h.1; below = h.2 }
