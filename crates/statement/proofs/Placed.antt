@@ -4,7 +4,7 @@ use Rattle.std.proofs.lemmas.List.{drop-drop, take_at, drop_at, length-take-le, 
 use Rattle.account.specs.declared.row.Row.{Row}
 use Rattle.account.specs.declared.row.Scope.TheVariants.{Trades}
 use Rattle.account.specs.declared.row.Scenario.TheVariants.{AllTrades}
-use Rattle.statement.specs.Statements.{row_text, rows_text, put_at}
+use Rattle.statement.specs.Statements.{row_text, rows_text, put_at, Puts}
 
 -- a row of a list; past its end, one that is never asked for
 abbrev pub row_at : List Row → ℕ → Row
@@ -21,9 +21,16 @@ put_both at a b memory within =
     rw (so_far, take_at front back (at + length a) long, drop_at front back (at + length a) long, length-append a b, drop-drop (length b) (length a) (drop at memory))
     (simp append_assoc)
 
--- once the first part is put, the rest puts what both put
-pub put_rest : (at next : ℕ) (a b memory after whole : List ℕ) → next ≡ at + length a → after ≡ put_at at a memory → at ≤ length memory → put_at at (a ++ b) memory ≡ whole → put_at next b after ≡ whole
-put_rest at next a b memory after whole n m within w = rw (n, m) (put_both at a b memory within ∙ w)
+-- a part put behind another
+pub then_puts : (at mid end : ℕ) (a b m n o : List ℕ) → at ≤ length m → Puts at a m n mid → Puts mid b n o end → Puts at (a ++ b) m o end
+then_puts at mid end a b m n o within p q = record {
+  placed = rw (q.placed, p.ends, p.placed) (put_both at a b m within);
+  ends = omega (arith, p.ends, q.ends, length-append a b);
+}
+
+-- once a part is put, the rest puts what both put
+pub rest_puts : (at mid : ℕ) (a b m n whole : List ℕ) → at ≤ length m → Puts at a m n mid → put_at at (a ++ b) m ≡ whole → put_at mid b n ≡ whole
+rest_puts at mid a b m n whole within p w = rw (p.ends, p.placed) (put_both at a b m within ∙ w)
 
 -- the text of the rows from one on is that row's line, and then the text of those after it
 pub rows_from : (rows : List Row) (i : ℕ) (tail : List ℕ) → i < length rows → rows_text (drop i rows) ++ tail ≡ row_text (row_at rows i) ++ (rows_text (drop (i + 1) rows) ++ tail)

@@ -1,5 +1,5 @@
 -- The text of a margin's statement, and what becomes of the memory that is lent for it.
-use Rattle.std.specs.Prelude.{ℕ, List, [], ◌∷◌, ◌++◌, length, take, drop, cond, Ok, Err, Result, nat_le, flat_map, codes}
+use Rattle.std.specs.Prelude.{◌≡◌, ℕ, ◌+◌, List, [], ◌∷◌, ◌++◌, length, take, drop, cond, Ok, Err, Result, nat_le, flat_map, codes}
 use Rattle.std.specs.Fmt.{decimal, signed_decimal}
 use Rattle.account.specs.declared.row.Row.{Row}
 use Rattle.account.specs.Lines.{Kind, trade, failed, held, cash_only}
@@ -51,6 +51,11 @@ statement_text rows cents rounded =
 -- the memory with bytes at a place of it
 abbrev pub put_at : ℕ → List ℕ → List ℕ → List ℕ
 put_at at bytes memory = take at memory ++ (bytes ++ drop (length bytes) (drop at memory))
+
+-- bytes put at a place: the memory afterwards, and where they end
+pub record Puts (at : ℕ) (bytes memory after : List ℕ) (end : ℕ) : Type 0 where
+  pub placed : after ≡ put_at at bytes memory
+  pub ends : end ≡ at + length bytes
 
 -- the length of a text that has room in the memory, which is refused elsewhere
 abbrev pub length_written : List ℕ → List ℕ → Result ℕ ℕ

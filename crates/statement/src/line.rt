@@ -1,138 +1,84 @@
-//! A line of a statement.
+//! The lines of a statement, put straight into its memory.
 ghost use Rattle.std.specs.Prelude.{◌≡◌, ◌+◌, ◌≤◌, ◌++◌, length, codes};
+ghost use Rattle.std.specs.Fmt.{decimal};
 ghost use Rattle.account.specs.Rows.{block_of, scenario_of};
-ghost use Rattle.statement.specs.Statements.{letter, row_text, total_text, end_text};
+ghost use Rattle.statement.specs.Statements.{letter, row_text, total_text, end_text, Puts};
 
+use crate::cell::{digits, put, put_number, put_signed, signed_len};
 use account::call::Margin;
-use account::row::{Row, Scope};
-use itoa::{Buffer, Integer};
-use std::marker::Model;
+use account::row::{Row, Scenario, Scope};
 
-// The longest line is a row with an ISIN of 12 bytes and two amounts of 20: it has 59.
-const LONGEST: usize = 64;
-
-/// The bytes of a line.
-#[derive(Drop)]
-pub(crate) struct Line {
-    bytes: [u8; LONGEST],
-    len: usize,
+/// How long the line of a row is.
+pub(crate) fn row_len(row: &Row) -> usize
+    ensures { result ≡ length (row_text row.now) }
+{
+    let named = row.isin.bytes.len() + scope_cells(row.scope).len();
+    named + digits(row.initial_margin) + signed_len(row.variation_margin) + 2
 }
 
-impl Model for Line {
-    ghost use Rattle.std.specs.Prelude.{ℕ, ◌≤◌, List, take};
-
-    ghost Value = { List ℕ };
-
-    ghost view = { λ line. take line.len line.bytes };
-
-    ghost invariant = { λ line. line.len ≤ 64 };
+/// Puts the line of a row at a place, and answers where it ends.
+pub(crate) fn put_row(memory: &mut [u8], at: usize, row: &Row) -> usize
+    requires { at + length (row_text row.now) ≤ length memory.old }
+    ensures { Puts at (row_text row.now) memory.old memory.new result }
+{
+    let at = put(memory, at, &row.isin.bytes);
+    let at = put(memory, at, scope_cells(row.scope));
+    let at = put_number(memory, at, row.initial_margin);
+    let at = put(memory, at, b";");
+    let at = put_signed(memory, at, row.variation_margin);
+    put(memory, at, b"\n")
 }
 
-impl Line {
-    /// The line of a row.
-    pub(crate) fn of_row(row: &Row) -> Line
-        ensures { result ≡ row_text row.now }
-    {
-        let mut line = Line::starting(&row.isin.bytes);
-        line.add_cell(letter(row.scope));
-        line.add_number(scenario(row.scope));
-        line.add_number(row.initial_margin);
-        line.add_number(row.variation_margin);
-        line.ended()
-    }
-
-    /// The line of a margin.
-    pub(crate) fn of_total(margin: Margin) -> Line
-        ensures { result ≡ total_text margin.cents margin.rounded_amounts }
-    {
-        let mut line = Line::starting(b"TOTAL");
-        line.add_number(margin.cents);
-        line.add_number(margin.rounded_amounts);
-        line.ended()
-    }
-
-    /// The last line, with the count of rows.
-    pub(crate) fn of_end(rows: usize) -> Line
-        ensures { result ≡ end_text rows }
-    {
-        let mut line = Line::starting(b"END");
-        line.add_number(rows);
-        line.ended()
-    }
-
-    /// Its bytes.
-    pub(crate) fn bytes(&self) -> &[u8]
-        ensures all { result.now ≡ self.now }
-        ensures short { length result.now ≤ 64 }
-    {
-        &self.bytes[..self.len]
-    }
-
-    fn starting(cell: &[u8]) -> Line
-        requires { length cell.now ≤ 64 }
-        ensures { result ≡ cell.now }
-    {
-        let mut line = Line {
-            bytes: [0; LONGEST],
-            len: 0,
-        };
-        line.add(cell);
-        line
-    }
-
-    fn add(&mut self, bytes: &[u8])
-        requires { length self.old + length bytes.now ≤ 64 }
-        ensures { self.new ≡ self.old ++ bytes.now }
-    {
-        let end = self.len + bytes.len();
-        self.bytes[self.len..end].copy_from_slice(bytes);
-        self.len = end;
-    }
-
-    fn add_cell(&mut self, cell: &[u8])
-        requires { length self.old + (length cell.now + 1) ≤ 64 }
-        ensures { self.new ≡ self.old ++ (codes ";" ++ cell.now) }
-    {
-        self.add(b";");
-        self.add(cell);
-    }
-
-    fn add_number<I: Integer>(&mut self, number: I)
-        requires { length self.old + (I.MAX_STR_LEN + 1) ≤ 64 }
-        ensures text { self.new ≡ self.old ++ (codes ";" ++ I.text number) }
-        ensures short { length self.new ≤ length self.old + (I.MAX_STR_LEN + 1) }
-    {
-        self.add_cell(Buffer::new().format(number).as_bytes());
-    }
-
-    fn ended(mut self) -> Line
-        requires { length self + 1 ≤ 64 }
-        ensures { result ≡ self ++ codes "\n" }
-    {
-        self.add(b"\n");
-        self
-    }
+/// How long the line of a margin is.
+pub(crate) fn total_len(margin: Margin) -> usize
+    ensures is { result ≡ length (total_text margin.cents margin.rounded_amounts) }
+    ensures few { result ≤ 48 }
+{
+    8 + digits(margin.cents) + digits(margin.rounded_amounts.into())
 }
 
-// The letter of a row's block.
-fn letter(scope: Scope) -> &'static [u8]
-    ensures is { result.now ≡ letter (block_of scope) }
-    ensures one { length result.now ≡ 1 }
+/// Puts the line of a margin at a place.
+pub(crate) fn put_total(memory: &mut [u8], at: usize, margin: Margin) -> usize
+    requires { at + length (total_text margin.cents margin.rounded_amounts) ≤ length memory.old }
+    ensures { Puts at (total_text margin.cents margin.rounded_amounts) memory.old memory.new result }
+{
+    let at = put(memory, at, b"TOTAL;");
+    let at = put_number(memory, at, margin.cents);
+    let at = put(memory, at, b";");
+    let at = put_number(memory, at, margin.rounded_amounts.into());
+    put(memory, at, b"\n")
+}
+
+/// How long the last line is.
+pub(crate) fn end_len(rows: usize) -> usize
+    ensures is { result ≡ length (end_text rows) }
+    ensures few { result ≤ 25 }
+{
+    5 + digits(rows as u64)
+}
+
+/// Puts the last line, with the count of rows, at a place.
+pub(crate) fn put_end(memory: &mut [u8], at: usize, rows: usize) -> usize
+    requires { at + length (end_text rows) ≤ length memory.old }
+    ensures { Puts at (end_text rows) memory.old memory.new result }
+{
+    let at = put(memory, at, b"END;");
+    let at = put_number(memory, at, rows as u64);
+    put(memory, at, b"\n")
+}
+
+// The cells of a row's block and scenario, with the ends of the cells around them.
+#[tactic(auto, using(std::proofs::lemmas::Fmt::decimal_digit))]
+fn scope_cells(scope: Scope) -> &'static [u8; 5]
+    ensures are { result.now ≡ codes ";" ++ letter (block_of scope) ++ codes ";" ++ decimal (scenario_of scope) ++ codes ";" }
+    ensures long { length result.now ≡ 5 }
 {
     match scope {
-        Scope::Trades(_) => b"T",
-        Scope::FailedLines => b"F",
-        Scope::HeldLines => b"H",
-        Scope::CashOnlyLines => b"C",
-    }
-}
-
-// The number of a trade row's scenario, and 0 of any other row.
-fn scenario(scope: Scope) -> u8
-    ensures { result ≡ scenario_of scope }
-{
-    match scope {
-        Scope::Trades(scenario) => scenario as u8,
-        Scope::FailedLines | Scope::HeldLines | Scope::CashOnlyLines => 0,
+        Scope::Trades(Scenario::AllTrades) => b";T;1;",
+        Scope::Trades(Scenario::WithoutToday) => b";T;2;",
+        Scope::Trades(Scenario::WithoutNext) => b";T;3;",
+        Scope::FailedLines => b";F;0;",
+        Scope::HeldLines => b";H;0;",
+        Scope::CashOnlyLines => b";C;0;",
     }
 }

@@ -1,9 +1,10 @@
 //! The text of a statement.
-ghost use Rattle.std.specs.Prelude.{◌≡◌, ◌+◌, ◌^◌, ◌<◌, ◌≤◌, length, SomeIff};
+ghost use Rattle.std.specs.Prelude.{◌≡◌, ◌^◌, ◌<◌, ◌≤◌, length, SomeIff};
 ghost use Rattle.quantities.specs.Checked.{told};
 ghost use Rattle.statement.specs.Statements.{statement_text, put_at, length_written, with_text};
 
-use crate::line::Line;
+use crate::cell::put;
+use crate::line::{end_len, put_end, put_row, put_total, row_len, total_len};
 use account::call::Margin;
 use account::row::Row;
 use quantities::refusal::Refusal;
@@ -15,48 +16,26 @@ const HEAD: &[u8] = b"STM;1\nISIN;BLOCK;SCEN;IM;VM\n";
 #[derive(Drop)]
 struct Statement<'a> {
     rows: &'a [Row],
-    total: Line,
-    end: Line,
+    margin: Margin,
 }
 
 impl<'a> Model for Statement<'a> {
-    ghost use Rattle.std.specs.Prelude.{ℕ, List, ◌++◌};
-    ghost use Rattle.statement.specs.Statements.{head_text, rows_text};
+    ghost use Rattle.std.specs.Prelude.{ℕ, List};
+    ghost use Rattle.statement.specs.Statements.{statement_text};
 
     ghost Value = { List ℕ };
 
-    ghost view = { λ s. head_text ++ (rows_text s.rows.now ++ (s.total ++ s.end)) };
-}
-
-// Puts bytes at a place of the memory, and answers where they end.
-fn put(memory: &mut [u8], at: usize, bytes: &[u8]) -> usize
-    requires { at + length bytes.now ≤ length memory.old }
-    ensures end { result ≡ at + length bytes.now }
-    ensures memory { memory.new ≡ put_at at bytes.now memory.old }
-{
-    let end = at + bytes.len();
-    memory[at..end].copy_from_slice(bytes);
-    end
+    ghost view = { λ s. statement_text s.rows.now s.margin.cents s.margin.rounded_amounts };
 }
 
 impl<'a> Statement<'a> {
-    fn new(rows: &'a [Row], margin: Margin) -> Self
-        ensures { result ≡ statement_text rows.now margin.cents margin.rounded_amounts }
-    {
-        Statement {
-            rows,
-            total: Line::of_total(margin),
-            end: Line::of_end(rows.len()),
-        }
-    }
-
     // How long the text is, where a number of bytes can be that.
     fn len(&self) -> Option<usize>
         ensures { SomeIff result (length self.now < 2 ^ 64) (length self.now) }
     {
-        let mut len = HEAD.len() + self.total.bytes().len() + self.end.bytes().len();
+        let mut len = HEAD.len() + total_len(self.margin) + end_len(self.rows.len());
         for row in self.rows {
-            len = len.checked_add(Line::of_row(row).bytes().len())?;
+            len = len.checked_add(row_len(row))?;
         }
         Some(len)
     }
@@ -66,13 +45,13 @@ impl<'a> Statement<'a> {
         requires { length self.now ≤ length memory.old }
         ensures { memory.new ≡ put_at 0 self.now memory.old }
     {
-        let Statement { rows, total, end } = self;
+        let Statement { rows, margin } = self;
         let mut at = put(memory, 0, HEAD);
         for row in *rows {
-            at = put(memory, at, Line::of_row(row).bytes());
+            at = put_row(memory, at, row);
         }
-        at = put(memory, at, total.bytes());
-        put(memory, at, end.bytes());
+        at = put_total(memory, at, *margin);
+        put_end(memory, at, rows.len());
     }
 }
 
@@ -81,7 +60,7 @@ pub fn write_statement(rows: &[Row], margin: Margin, buffer: &mut [u8]) -> Resul
     ensures answer { told (λ len. len) result ≡ length_written (statement_text rows.now margin.cents margin.rounded_amounts) buffer.old }
     ensures buffer { buffer.new ≡ with_text (statement_text rows.now margin.cents margin.rounded_amounts) buffer.old }
 {
-    let statement = Statement::new(rows, margin);
+    let statement = Statement { rows, margin };
     // the length is known before the first byte is written
     let len = statement.len().ok_or(Refusal::TooLong)?;
     if len > buffer.len() {

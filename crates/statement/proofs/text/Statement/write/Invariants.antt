@@ -1,11 +1,11 @@
 use Rattle.std.proofs.Common.{◌≡◌, ◌+◌, ◌≤◌, ◌++◌, length, drop}
-use Rattle.statement.specs.Statements.{rows_text, put_at}
+use Rattle.statement.specs.Statements.{rows_text, total_text, end_text, put_at}
 use Rattle.statement.proofs.text.Statement.write.Given as goal
 
 -- the lines that are left put the whole text
 abbrev pub invariant-loop-row : goal.invariant-loop-row
 invariant-loop-row l =
-    let left = rows_text (drop l.row-index l.row-items) ++ (l.total ++ l.end) in
+    let left = rows_text (drop l.row-index l.row-items) ++ (total_text l.margin.cents l.margin.rounded_amounts ++ end_text (length l.row-items)) in
     record {
       room : l.at + length left ≤ length l.memory;
       text : put_at l.at left l.memory ≡ put_at 0 l.self l.fn.memory;
