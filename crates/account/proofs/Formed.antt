@@ -68,9 +68,12 @@ isin_bytes bs h =
           (cases_lt i 2);
     }
 
+pub formed_bytes : (l : Line) → well_formed l ≡ true → Bytes 12 l.isin.bytes
+formed_bytes l h = isin_bytes l.isin.bytes (formed_parts l h).isin
+
 -- ---- lines that a book has taken
 pub taken_bytes : (today : ℕ) (ls : List Line) → each_taken today ls ≡ true → TwelveBytes ls
 taken_bytes today [] t = tt
 taken_bytes today (l ∷ ls) t =
     let p = and_parts (well_formed l && well_dated today l.block) (each_taken today ls) t in
-    (isin_bytes l.isin.bytes (formed_parts l (and_parts (well_formed l) (well_dated today l.block) p.0).0).isin, taken_bytes today ls p.1)
+    (formed_bytes l (and_parts (well_formed l) (well_dated today l.block) p.0).0, taken_bytes today ls p.1)

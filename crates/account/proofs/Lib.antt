@@ -9,3 +9,8 @@ pub mod Cents
 pub mod Answered
 pub mod History
 pub mod Formed
+pub mod Keyed
+pub mod Sorted
+pub mod ByIsin
+pub mod InRecords
+pub mod SameRows

@@ -29,7 +29,7 @@ before_same (x ∷ xs) (y ∷ ys) e h k =
     (⊎_elim (λ (w : x < y). let a = lt-ltb x y w in absurd (both_ways true (rw a at h) refl)) (λ (w : y < x). let a = lt-ltb y x w in absurd (both_ways true (rw a at k) refl)))
     (cases_order x y)
 
-ranks_apart : (i j : Isin) → Bytes 12 i.bytes → Bytes 12 j.bytes → same_isin i j ≡ false → isin_rank i ≡ isin_rank j → ⊥
+pub ranks_apart : (i j : Isin) → Bytes 12 i.bytes → Bytes 12 j.bytes → same_isin i j ≡ false → isin_rank i ≡ isin_rank j → ⊥
 ranks_apart i j h k d e =
     let a : before i.bytes j.bytes ≡ false = sym (byte_order 12 i.bytes j.bytes h k) ∙ le-ltb _ _ (omega arith) in
     let b : before j.bytes i.bytes ≡ false = sym (byte_order 12 j.bytes i.bytes k h) ∙ le-ltb _ _ (omega arith) in

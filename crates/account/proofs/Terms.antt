@@ -27,7 +27,7 @@ same_side_itself : (s : Side) → same_side s s ≡ true
 same_side_itself Bought = refl
 same_side_itself Sold = refl
 
-same_kind_itself : (k : Kind) → same_kind k k ≡ true
+pub same_kind_itself : (k : Kind) → same_kind k k ≡ true
 same_kind_itself trade = refl
 same_kind_itself failed = refl
 same_kind_itself held = refl

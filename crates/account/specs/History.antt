@@ -5,6 +5,7 @@ use Rattle.quantities.specs.Refusals.{number}
 use Rattle.netting.specs.Rules.{Netting}
 use Rattle.curve.specs.Curves.{Discounting}
 use Rattle.account.specs.declared.line.Line.{Line}
+use Rattle.account.specs.declared.by_isin.ByIsin.{ByIsin}
 use Rattle.account.specs.declared.call.Call.{Call}
 use Rattle.account.specs.Settings.{Setting}
 use Rattle.account.specs.Calls.{Answer, Answered, refused, given, Event, moved, standing, events}
@@ -32,16 +33,20 @@ HistoryLaw =
     (s : Setting) (room : ℕ) (es : List Event) → Netting s.charged → Discounting s.reach s.rate →
     EachDue s room [] es → Kept s room es (margin_answer s (standing es))
 
--- how many lines a book can hold in places for lines: 65,535 at most
-abbrev pub room_in : List Line → ℕ
-room_in places = min (length places) 65535
+-- how many lines a book can hold in places for lines, by reference and by ISIN: 65,535 at most
+abbrev pub room_in : List Line → List ByIsin → ℕ
+room_in places by_isin = min (min (length places) (length by_isin)) 65535
 
 -- a list of calls, worked through over places for its answers and for the lines of a book, and the margin asked after them
-pub record WorkedThrough (s : Setting) (calls : List Call) (answers answers_after : List Answered) (places places_after : List Line) (last : Answer) : Type 0 where
+pub record WorkedThrough (s : Setting) (calls : List Call) (answers answers_after : List Answered) (places places_after : List Line) (by_isin by_isin_after : List ByIsin) (last : Answer) : Type 0 where
   -- fewer places for answers than calls are refused, with nothing done
-  pub too_few : length answers < length calls → (last ≡ refused (number TooLong) 0) × (answers_after ≡ answers) × (places_after ≡ places)
+  pub too_few :
+      length answers < length calls →
+      (last ≡ refused (number TooLong) 0) × (answers_after ≡ answers) × (places_after ≡ places) × (by_isin_after ≡ by_isin)
   -- else every call is answered in its place, and the places after them keep what they held
-  pub kept : length calls ≤ length answers → Kept s (room_in places) (events calls answers_after) last × (drop (length calls) answers_after ≡ drop (length calls) answers)
+  pub kept :
+      length calls ≤ length answers →
+      Kept s (room_in places by_isin) (events calls answers_after) last × (drop (length calls) answers_after ≡ drop (length calls) answers)
 
 -- the last margins of three lists of calls: where the third book is the joint book of the first two and theirs are given, its margin is given, and at most theirs added
 abbrev pub JointKept : List Event → List Event → List Event → Answer → Answer → Answer → Type 0

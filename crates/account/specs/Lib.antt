@@ -1,4 +1,5 @@
 pub mod Lines
+pub mod ByIsin
 pub mod Settings
 pub mod Charges
 pub mod Rows

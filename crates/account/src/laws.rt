@@ -1,4 +1,5 @@
 //! The laws of a margin: they are the contract of a function that does nothing else.
+ghost use Rattle.account.specs.ByIsin.{ByIsinLaw};
 ghost use Rattle.account.specs.Lines.{IsinsLaw};
 ghost use Rattle.account.specs.Rows.{WorstLaw, NoLinesLaw};
 ghost use Rattle.account.specs.Joint.{JointBound, CentsBound, JointLaw, CentsLaw, GivenLaw};
@@ -8,6 +9,8 @@ ghost use Rattle.account.specs.History.{HistoryLaw};
 pub fn laws_stand()
     // The ISINs of lines are those that the lines have, in byte order.
     ensures isins_law { IsinsLaw }
+    // Lines that stand by ISIN are the same lines, those of each ISIN together and in their order.
+    ensures by_isin_law { ByIsinLaw }
     // A trade row is the worst of its scenarios, and of equal charges the one of the lowest number.
     ensures worst_law { WorstLaw }
     // Where there are no lines, nothing is charged.

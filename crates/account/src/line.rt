@@ -54,7 +54,7 @@ impl Default for Line {
             side: Side::Bought,
             titles: 0,
             cash: 0,
-            block: Block::CashOnly(0),
+            block: Block::Trade(0),
         }
     }
 }

@@ -1,7 +1,6 @@
 -- The checks of a line, and the answer that each leads to.
-use Rattle.std.proofs.Common.{◌≡◌, ℕ, ◌<◌, Bool, true, false, cond, not, eqb, ltb, leb, List, [], ◌∷◌, length, is_some, Some, None, Ok, Err, Option, Result, sym, refl, ap, ◌∙◌, Bor}
-use Rattle.std.specs.Option.{option_map}
-use Rattle.std.proofs.lemmas.Bool.{cond-true, cond-false, not_from_true, not_from_false, lt-ltb, le-ltb, leb-true, leb-false}
+use Rattle.std.proofs.Common.{◌≡◌, ℕ, ◌<◌, Bool, true, false, cond, not, eqb, ltb, List, [], ◌∷◌, length, is_some, Some, Ok, Err, Result, sym, refl, ap, ◌∙◌}
+use Rattle.std.proofs.lemmas.Bool.{cond-true, cond-false, not_from_true, not_from_false, lt-ltb, le-ltb}
 use Rattle.quantities.specs.declared.refusal.Refusal.{Refusal}
 use Rattle.quantities.specs.declared.refusal.Refusal.TheVariants.{Full}
 use Rattle.quantities.specs.Ranges.{most_titles}
@@ -11,7 +10,7 @@ use Rattle.account.specs.declared.line.Line.{Line}
 use Rattle.account.specs.declared.call.Call.TheVariants.{Enter}
 use Rattle.account.specs.Calls.{accepted, refused, told_enter, line_rank, moved}
 use Rattle.account.specs.Answers.{well_formed, well_dated, titles_with, enter_answer}
-use Rattle.book.specs.Checks.{Checks, Admitted, Admits}
+use Rattle.book.specs.Checks.{Admitted}
 
 -- ---- a search tells whether a reference stands
 pub found_is : (f : Line → ℕ) (k : ℕ) (ls : List Line) → is_some (found_by f k ls) ≡ has_rank f k ls
@@ -21,13 +20,6 @@ found_is f k (l ∷ ls) = go (eqb (f l) k) (found_is f k ls)
     go : (b : Bool) → is_some (found_by f k ls) ≡ has_rank f k ls → is_some (cond b (Some l) (found_by f k ls)) ≡ cond b true (has_rank f k ls)
     go true e = refl
     go false e = e
-
-pub found_tells : (k : ℕ) (ls : List Line) (o : Option (Bor Line)) → option_map (λ x. x.now) o ≡ found_by line_rank k ls → is_some o ≡ has_rank line_rank k ls
-found_tells k ls o e = go o ∙ ap is_some e ∙ found_is line_rank k ls
-  where
-    go : (o : Option (Bor Line)) → is_some o ≡ is_some (option_map (λ x. x.now) o)
-    go None = refl
-    go (Some x) = refl
 
 -- ---- the answer, check by check
 module _ (today room : ℕ) (ls : List Line) (l : Line) where
@@ -51,12 +43,6 @@ module _ (today room : ℕ) (ls : List Line) (l : Line) where
       cond-false (not (well_formed l)) _ _ (not_from_true (well_formed l) a.formed) ∙ cond-false (has_rank line_rank l.reference ls) _ _ a.new
       ∙ cond-false (not (well_dated today l.block)) _ _ (not_from_true (well_dated today l.block) a.dated)
       ∙ cond-false (ltb most_titles (titles_with l ls)) _ _ (le-ltb most_titles (titles_with l ls) a.titles)
-
--- ---- the check of titles comes last
-module _ (today : ℕ) (ls : List Line) (l : Line) (formed : well_formed l ≡ true) (new : has_rank line_rank l.reference ls ≡ false) (dated : well_dated today l.block ≡ true) where
-  pub titles_checked : (r : Result (Unit {0}) Refusal) → Checks 8 (leb (titles_with l ls) most_titles) r → Admits today ls l r
-  titles_checked (Ok x) h = record { formed = formed; new = new; dated = dated; titles = leb-true (titles_with l ls) most_titles h }
-  titles_checked (Err e) h = λ room. ap (λ n. refused n l.reference) h.1 ∙ too_many today room ls l formed new dated (leb-false (titles_with l ls) most_titles h.0)
 
 -- ---- a line that is admitted stands, if there is a place
 module _ (today room : ℕ) (l : Line) (ls after : List Line) (answer : Result (Unit {0}) Refusal) (a : Admitted today ls l) (i : Inserts line_rank room l ls answer after) where

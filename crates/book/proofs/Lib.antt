@@ -1,6 +1,10 @@
-pub mod Chained
+pub mod Runs
+pub mod Places
 pub mod Entering
 pub mod Withdrawing
 pub mod Taken
+pub mod Beside
+pub mod Sides
+pub mod Both
 pub mod Working
 pub mod Promise

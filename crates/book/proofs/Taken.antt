@@ -31,10 +31,10 @@ taken_without today r (x ∷ xs) t =
     (λ e. and_from (well_formed x && well_dated today x.block) (each_taken today (without line_rank r xs)) p.0 (taken_without today r xs p.1))
 
 -- ---- the titles of each ISIN and block
-titles_first : (i : Isin) (k : Kind) (l : Line) (ls : List Line) → titles_of i k (l ∷ ls) ≡ cond (of i k l) l.titles 0 + titles_of i k ls
+pub titles_first : (i : Isin) (k : Kind) (l : Line) (ls : List Line) → titles_of i k (l ∷ ls) ≡ cond (of i k l) l.titles 0 + titles_of i k ls
 titles_first i k l ls = sum_first (λ x. x.titles) (of i k) l ls
 
-titles_inserted : (i : Isin) (k : Kind) (l : Line) (ls : List Line) → titles_of i k (inserted_by line_rank l ls) ≡ cond (of i k l) l.titles 0 + titles_of i k ls
+pub titles_inserted : (i : Isin) (k : Kind) (l : Line) (ls : List Line) → titles_of i k (inserted_by line_rank l ls) ≡ cond (of i k l) l.titles 0 + titles_of i k ls
 titles_inserted i k l [] = titles_first i k l []
 titles_inserted i k l (x ∷ xs) =
     cond_both (ltb l.reference x.reference) (l ∷ (x ∷ xs)) (x ∷ inserted_by line_rank l xs) (λ ms. titles_of i k ms ≡ cond (of i k l) l.titles 0 + titles_of i k (x ∷ xs))

@@ -1,20 +1,23 @@
 //! The checks of a line that is to be entered.
-ghost use Rattle.std.specs.Prelude.{◌≡◌, ◌^◌, ◌<◌, ◌≤◌, nat_le, sum_by, filter};
+ghost use Rattle.std.specs.Prelude.{◌≡◌, ◌++◌, ◌^◌, ◌<◌, ◌≤◌, nat_le, sum_by, filter, reverse};
+ghost use Rattle.std.specs.List.{take_while};
 ghost use Rattle.quantities.specs.Ranges.{most_titles};
-ghost use Rattle.account.specs.Lines.{kind, of};
+ghost use Rattle.account.specs.Lines.{kind as block_kind, same_kind, same_isin};
+ghost use Rattle.account.specs.ByIsin.{lines_in};
 ghost use Rattle.valuation.specs.Kinds.{kind_of};
 ghost use Rattle.account.specs.Answers.{has_titles, well_formed, well_dated, titles_of, titles_with};
-ghost use Rattle.book.specs.Checks.{Checks};
+ghost use Rattle.book.specs.Checks.{Checks, Beside};
 
+use account::by_isin::ByIsin;
 use account::line::{Block, Line};
 use quantities::date::{Date, past_date, settlement_date};
 use quantities::isin::Isin;
 use quantities::range::{Cash, Titles};
 use quantities::refusal::Refusal;
-use valuation::block::{BlockKind, is_of};
+use valuation::block::BlockKind;
 
 fn titles_fit(block: Block, titles: u32) -> bool
-    ensures { result ≡ has_titles (kind block) titles }
+    ensures { result ≡ has_titles (block_kind block) titles }
 {
     match block {
         Block::Trade(_) | Block::Failed(_) | Block::Held(_) => matches!(titles, 1..=Titles::MOST),
@@ -44,26 +47,27 @@ pub fn check_date(today: Date, block: Block) -> Result<(), Refusal>
     Ok(())
 }
 
-// The titles of an ISIN and block that stand already.
-fn titles_standing(lines: &[Line], isin: Isin, kind: BlockKind) -> u32
-    requires { sum_by (λ l. l.titles) (filter (of isin (kind_of kind)) lines.now) < 2 ^ 32 }
-    ensures { result ≡ sum_by (λ l. l.titles) (filter (of isin (kind_of kind)) lines.now) }
+// The titles of an ISIN and block that stand already, where the lines of the ISIN are the last before a place and the first after it.
+fn titles_standing(before: &[ByIsin], after: &[ByIsin], isin: Isin, kind: BlockKind) -> u32
+    requires { sum_by (λ x. x.line.titles) (filter (λ x. same_kind (block_kind x.line.block) (kind_of kind)) (take_while (λ x. same_isin x.line.isin isin) (reverse before.now) ++ take_while (λ x. same_isin x.line.isin isin) after.now)) < 2 ^ 32 }
+    ensures { result ≡ sum_by (λ x. x.line.titles) (filter (λ x. same_kind (block_kind x.line.block) (kind_of kind)) (take_while (λ x. same_isin x.line.isin isin) (reverse before.now) ++ take_while (λ x. same_isin x.line.isin isin) after.now)) }
 {
-    lines
-        .iter()
-        .filter(|line| is_of(line, isin, kind))
-        .map(|line| line.titles)
+    let last = before.iter().rev().take_while(|x| x.line.isin == isin);
+    let first = after.iter().take_while(|x| x.line.isin == isin);
+    last.chain(first)
+        .filter(|x| BlockKind::from(x.line.block) == kind)
+        .map(|x| x.line.titles)
         .sum()
 }
 
-/// Refuses a line with which the titles of its ISIN and block would pass their limit.
-#[tactic(auto, using(crate::proofs::Chained::titles_chained))]
-pub fn check_titles(lines: &[Line], line: &Line) -> Result<(), Refusal>
-    requires standing { titles_of line.now.isin (kind line.now.block) lines.now ≤ most_titles }
+/// Refuses a line with which the titles of its ISIN and block would pass their limit, by the lines before its place and those after it.
+pub fn check_titles(before: &[ByIsin], after: &[ByIsin], line: &Line) -> Result<(), Refusal>
+    requires beside { Beside line.now.isin before.now after.now }
+    requires standing { titles_of line.now.isin (block_kind line.now.block) (lines_in (before.now ++ after.now)) ≤ most_titles }
     requires own { line.now.titles ≤ most_titles }
-    ensures { Checks 8 (nat_le (titles_with line.now lines.now) most_titles) result }
+    ensures { Checks 8 (nat_le (titles_with line.now (lines_in (before.now ++ after.now))) most_titles) result }
 {
-    let standing = titles_standing(lines, line.isin, BlockKind::from(line.block));
+    let standing = titles_standing(before, after, line.isin, BlockKind::from(line.block));
     if standing + line.titles <= Titles::MOST {
         Ok(())
     } else {

@@ -1,6 +1,7 @@
 //! A book at its edges.
 use crate::book::Book;
 use crate::work::{Ledger, work_calls};
+use account::by_isin::ByIsin;
 use account::call::{Answer, Call, LineRefusal, Margin, Reply};
 use account::line::{Block, Line, Side};
 use account::row::{Row, Scope};
@@ -75,8 +76,9 @@ fn lines_are_refused_in_order(rt: HostRuntime) -> Result<(), Fail> {
     let mut prices = [Price::default(); 1];
     let mut percentages = [Percentage::default(); 6];
     let market = Market::new(today()?, &mut prices, &mut percentages);
-    let mut places = [Line::default(); 2];
-    let mut book = Book::new(&market, &mut places);
+    let mut places = [Line::default(); 3];
+    let mut by_isin = [ByIsin::default(); 2];
+    let mut book = Book::new(&market, &mut places, &mut by_isin);
     let trade = Block::Trade(9_000);
     assert_eq!(rt; refused(book.enter(bought(0, LONG_BOND, 1, 1, trade))), 4);
     assert_eq!(rt;
@@ -109,7 +111,8 @@ fn a_margin_with_its_rows(rt: HostRuntime) -> Result<(), Fail> {
     assert_eq!(rt; points.add(364, 360), Ok(()));
     let curve = StepCurve { points: &points };
     let mut places = [Line::default(); 4];
-    let mut book = Book::new(&market, &mut places);
+    let mut by_isin = [ByIsin::default(); 4];
+    let mut book = Book::new(&market, &mut places, &mut by_isin);
     assert_eq!(rt; told(book.margin(&curve, &Net)), (0, 0));
     let failed = bought(3, SHORT_BOND, 3, 300_000, Block::Failed(8_998));
     let trade = bought(1, LONG_BOND, 1_000, 101_000_000, Block::Trade(9_101));
@@ -168,16 +171,19 @@ fn too_few_places_for_answers_and_no_price(rt: HostRuntime) -> Result<(), Fail> 
     let mut one = [accepted; 1];
     let mut two = [accepted; 2];
     let mut places = [Line::default(); 1];
+    let mut by_isin = [ByIsin::default(); 1];
     let mut short = Ledger {
         calls: &calls,
         answers: &mut one,
         places: &mut places,
+        by_isin: &mut by_isin,
     };
     assert_eq!(rt; told(work_calls(&setup, &mut short)), (14, 0));
     let mut long = Ledger {
         calls: &calls,
         answers: &mut two,
         places: &mut places,
+        by_isin: &mut by_isin,
     };
     assert_eq!(rt; told(work_calls(&setup, &mut long)), (10, 5));
     Ok(())

@@ -6,6 +6,7 @@ ghost use Rattle.book.specs.Ledgers.{events_of, Works};
 ghost use Rattle.valuation.specs.Setups.{setting_of};
 
 use crate::book::Book;
+use account::by_isin::ByIsin;
 use account::call::{Answer, Call, LineRefusal, Margin};
 use account::line::Line;
 use curve::Curve;
@@ -13,12 +14,13 @@ use netting::NettingRule;
 use quantities::refusal::Refusal;
 use valuation::setup::Setup;
 
-/// A list of calls, with places for its answers and for the lines of its book.
+/// A list of calls, with places for its answers and for the lines of its book, by reference and by ISIN.
 #[derive(Drop)]
 pub struct Ledger<'a> {
     pub calls: &'a [Call],
     pub answers: &'a mut [Answer],
     pub places: &'a mut [Line],
+    pub by_isin: &'a mut [ByIsin],
 }
 
 // The setting is written out by curve and rule, as in a portfolio: it holds functions, so no model of a setup can be one.
@@ -33,7 +35,7 @@ impl Ledger<'_> {
         if self.answers.len() < self.calls.len() {
             return Err(LineRefusal::of_line(0, Refusal::TooLong));
         }
-        let mut book = Book::new(setup.market, self.places);
+        let mut book = Book::new(setup.market, self.places, self.by_isin);
         book.take_all(setup.curve, setup.rule, self.calls, self.answers);
         book.margin(setup.curve, setup.rule)
     }

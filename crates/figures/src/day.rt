@@ -1,4 +1,5 @@
 //! A day of two accounts: each is worked call by call, then both are put together.
+use account::by_isin::ByIsin;
 use account::call::{Answer, Call, LineRefusal, Margin, Reply};
 use account::line::{Block, Line, Side};
 use book::work::{Ledger, ThreeMargins, work_three_books};
@@ -195,8 +196,11 @@ fn work_on(rt: &impl Print, market: &Market<'_>, points: &Points<'_>) -> io::Res
     let mut second_answers = [accepted; 6];
     let mut joint_answers = [accepted; 6];
     let mut first_places = [Line::default(); 8];
+    let mut first_by_isin = [ByIsin::default(); 8];
     let mut second_places = [Line::default(); 8];
+    let mut second_by_isin = [ByIsin::default(); 8];
     let mut joint_places = [Line::default(); 8];
+    let mut joint_by_isin = [ByIsin::default(); 8];
     let setup = Setup {
         market,
         curve: &curve,
@@ -208,16 +212,19 @@ fn work_on(rt: &impl Print, market: &Market<'_>, points: &Points<'_>) -> io::Res
             calls: &first,
             answers: &mut first_answers,
             places: &mut first_places,
+            by_isin: &mut first_by_isin,
         },
         &mut Ledger {
             calls: &second,
             answers: &mut second_answers,
             places: &mut second_places,
+            by_isin: &mut second_by_isin,
         },
         &mut Ledger {
             calls: &joint,
             answers: &mut joint_answers,
             places: &mut joint_places,
+            by_isin: &mut joint_by_isin,
         },
     );
     show_calls(rt, "The first account", &first, &first_answers)?;

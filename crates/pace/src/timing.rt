@@ -1,5 +1,6 @@
 //! How long a book takes to enter its lines and to give its margin.
 use crate::sample::{LINES_PER_ISIN, TODAY, sample_isin, sample_line};
+use account::by_isin::ByIsin;
 use account::line::Line;
 use book::book::Book;
 use curve::point::Point;
@@ -61,9 +62,10 @@ fn time_book(
     points: &Points<'_>,
     sample: &[Line],
     places: &mut [Line],
+    by_isin: &mut [ByIsin],
 ) -> io::Result<Result<(Duration, Duration), Refusal>> {
     let curve = StepCurve { points };
-    let mut book = Book::new(market, places);
+    let mut book = Book::new(market, places, by_isin);
     let start = Instant::now(rt)?;
     let entered = enter_all(&mut book, sample);
     let entering = start.elapsed(rt)?;
@@ -84,6 +86,7 @@ pub fn time(rt: &HostRuntime, lines: u32) -> io::Result<Result<Pace, Refusal>> {
         .map(|place| sample_line(place, lines))
         .collect(alloc)?;
     let mut places: Vec<Line> = sample.iter().map(|_| Line::default()).collect(alloc)?;
+    let mut by_isin: Vec<ByIsin> = sample.iter().map(|_| ByIsin::default()).collect(alloc)?;
     let mut prices: Vec<Price> = sample.iter().map(|_| Price::default()).collect(alloc)?;
     let day = Day {
         today: TODAY,
@@ -108,6 +111,7 @@ pub fn time(rt: &HostRuntime, lines: u32) -> io::Result<Result<Pace, Refusal>> {
             &points,
             sample.as_slice(),
             places.as_mut_slice(),
+            by_isin.as_mut_slice(),
         )? {
             Ok((entering, margin)) => {
                 least.entering = least.entering.min(entering);

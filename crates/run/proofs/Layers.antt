@@ -1,6 +1,6 @@
 -- Each refusal of a run is of one of its layers.
 use Rattle.std.proofs.Common.{◌≡◌, ℕ, ◌-◌, ◌≤◌, ◌⊎◌, inl, inr, ⊎_elim, Bool, true, false, cond, not, ◌&&◌, ltb, eqb, List, [], ◌∷◌, length, Option, Some, None, Ok, Err, sym, refl, ap, ◌∙◌, subst, arith}
-use Rattle.std.proofs.lemmas.Bool.{eqb-false}
+use Rattle.std.proofs.lemmas.Bool.{eqb-true, eqb-false}
 use Rattle.register.specs.Contents.{Held}
 use Rattle.curve.specs.declared.point.Point.{Point}
 use Rattle.market.specs.Contents.{Quotes}
@@ -24,7 +24,7 @@ use Rattle.run.specs.Refusals.{Turned, Refused, Outcome, of_run, of_sheet}
 use Rattle.run.specs.Through.{Through, Keeping, sheet_kept}
 use Rattle.run.specs.Kept.{keep_day, keep_percentage, keep_point, keep_price, Lines, keep_line}
 use Rattle.run.specs.Runs.{most_bytes, then, input, quotes_of, no_points, no_lines, Loaded, setting_of, nothing_left, no_day, one_day, loaded, stated}
-use Rattle.run.specs.Laws.{HasRow, Behind, AtPercentages, AtPoints, AtPrices, AtPositions, ToldBy, OfRun, OfSheet, OfBook, OfMargin, RefusalsLaw}
+use Rattle.run.specs.Laws.{HasRow, Behind, AtPercentages, AtPoints, AtPrices, AtPositions, ToldBy, OfRun, OfSheet, OfBook, Lacking, OfMargin, RefusalsLaw}
 use Rattle.run.proofs.Sheets.{Ranged, sheet_read}
 use Rattle.run.proofs.Told.{LeftOf, sheet_told}
 use Rattle.run.proofs.RowKinds.{Numbered, days_known, percentages_known, points_known, prices_known, positions_known, day_turned, percentage_turned, point_turned, price_turned, line_turned}
@@ -121,27 +121,41 @@ faults s l h = go (same_kind (kind l.block) cash_only) (has_price s l.isin) (has
     go false true true true h = (omega arith, omega arith)
     go false true true false h = absurd (h refl)
 
-without_margin : (s : Setting) (all ls : List Line) (n r : ℕ) → answer_among s all ls ≡ refused n r → (10 ≤ n) × (n ≤ 12)
-without_margin s all [] n r e = let z : ◌≡◌ {A = ℕ} 0 1 = cc in absurd (omega arith)
-without_margin s all (l ∷ ls) n r e = go (eqb (fault s l) 0) refl e (without_margin s all ls n r)
+first_lacking : (s : Setting) (all ls : List Line) (n r : ℕ) → answer_among s all ls ≡ refused n r → Lacking s ls n r × ((10 ≤ n) × (n ≤ 12))
+first_lacking s all [] n r e = let z : ◌≡◌ {A = ℕ} 0 1 = cc in absurd (omega arith)
+first_lacking s all (l ∷ ls) n r e = go (eqb (fault s l) 0) refl e (first_lacking s all ls n r)
   where
-    go : (b : Bool) → eqb (fault s l) 0 ≡ b → cond b (answer_among s all ls) (refused (fault s l) l.reference) ≡ refused n r → (answer_among s all ls ≡ refused n r → (10 ≤ n) × (n ≤ 12)) → (10 ≤ n) × (n ≤ 12)
-    go true t e rest = rest e
+    go : (b : Bool) → eqb (fault s l) 0 ≡ b → cond b (answer_among s all ls) (refused (fault s l) l.reference) ≡ refused n r →
+        (answer_among s all ls ≡ refused n r → Lacking s ls n r × ((10 ≤ n) × (n ≤ 12))) → Lacking s (l ∷ ls) n r × ((10 ≤ n) × (n ≤ 12))
+    go true t e rest =
+        let later = rest e in
+        let found = later.0 in (
+          record {
+            before = l ∷ found.before;
+            line = found.line;
+            after = found.after;
+            lines_are = ap (λ ms. l ∷ ms) found.lines_are;
+            none_before = (eqb-true (fault s l) 0 t, found.none_before);
+            lacks = found.lacks;
+            reference_is = found.reference_is;
+          },
+          later.1,
+        )
     go false t e rest =
         let f = faults s l (eqb-false (fault s l) 0 t) in
         let same : fault s l ≡ n = cc in
-        (omega arith, omega arith)
+        (record { before = []; line = l; after = ls; lines_are = refl; none_before = tt; lacks = same; reference_is = cc }, (omega arith, omega arith))
 
 too_long : {X : Type 0} (t : Bool) (r : Outcome X) (e : Refused) → cond t (Err (of_run 14)) r ≡ Err e → OfRun e ⊎ (r ≡ Err e)
 too_long true r e h = inl (sym (same_err _ e h))
 too_long false r e h = inr h
 
-not_stated : (buffer : ℕ) (l : Loaded) (a : Answer) (e : Refused) → margin_answer l.setting l.standing ≡ a → stated buffer l a ≡ Err e → OfRun e ⊎ OfMargin e
-not_stated buffer l accepted e q h = cc
-not_stated buffer l (refused n r) e q h =
-    let w = without_margin l.setting l.standing l.standing n r q in
-    inr (subst OfMargin (same_err {X = List ℕ} _ e h) (record { layer = refl; from_10 = w.0; to_12 = w.1; line = refl; cell = refl }))
-not_stated buffer l (given m k) e q h =
+not_stated : (bytes : List ℕ) (buffer : ℕ) (l : Loaded) (a : Answer) (e : Refused) → loaded bytes ≡ Ok l → margin_answer l.setting l.standing ≡ a → stated buffer l a ≡ Err e → OfRun e ⊎ OfMargin bytes e
+not_stated bytes buffer l accepted e is q h = cc
+not_stated bytes buffer l (refused n r) e is q h =
+    let w = first_lacking l.setting l.standing l.standing n r q in
+    inr (subst (OfMargin bytes) (same_err {X = List ℕ} _ e h) (record { layer = refl; from_10 = w.1.0; to_12 = w.1.1; line = refl; cell = refl; basis = l; basis_is = is; lacking = w.0 }))
+not_stated bytes buffer l (given m k) e is q h =
     let text = statement_text (statement_rows l.setting l.standing) m k in
     ⊎_elim inl (λ (z : Ok text ≡ Err e). cc) (too_long (ltb buffer (length text)) (Ok text) e h)
 
@@ -150,6 +164,6 @@ refusals_law bytes buffer e h =
     ⊎_elim inl
     (λ r. ⊎_elim
     (λ n. ⊎_elim (λ s. inr (inl s)) (λ b. inr (inr (inl b))) (not_loaded bytes e n))
-    (λ l. ⊎_elim inl (λ m. inr (inr (inr m))) (not_stated buffer l.0 (margin_answer l.0.setting l.0.standing) e refl l.1.1))
+    (λ l. ⊎_elim inl (λ m. inr (inr (inr m))) (not_stated bytes buffer l.0 (margin_answer l.0.setting l.0.standing) e l.1.0 refl l.1.1))
     (then_err (loaded bytes) (λ l. stated buffer l (margin_answer l.setting l.standing)) e r))
     (too_long (ltb most_bytes (length bytes)) _ e h)

@@ -8,6 +8,7 @@ pub mod RowKinds
 pub mod Loaded
 pub mod Promise
 pub mod Layers
+pub mod Accepting
 mod RowCount
 mod Stated
 mod Begun

@@ -1,14 +1,36 @@
 -- A statement has at most as many rows as there are lines.
-use Rattle.std.proofs.Common.{◌≤◌, List, [], ◌∷◌, ◌++◌, length, arith}
+use Rattle.std.proofs.Common.{◌≡◌, ℕ, ◌+◌, ◌≤◌, Bool, true, false, cond, List, [], ◌∷◌, ◌++◌, length, refl, arith}
 use Rattle.std.proofs.lemmas.List.{length-append}
 use Rattle.quantities.specs.declared.isin.Isin.{Isin}
 use Rattle.account.specs.declared.line.Line.{Line}
 use Rattle.account.specs.declared.row.Row.{Row}
-use Rattle.account.specs.Lines.{Kind, trade, failed, held, cash_only, of, keep, sum_of, isins}
+use Rattle.account.specs.Lines.{Kind, trade, failed, held, cash_only, same_isin, of, keep, sum_of, isins}
+use Rattle.account.proofs.Sums.{sum_le}
+use Rattle.account.proofs.Isins.{once_each}
 use Rattle.account.specs.Settings.{Setting}
 use Rattle.account.specs.Rows.{if_any, block_row, block_rows, isin_rows, rows_over, statement_rows}
 use Rattle.valuation.specs.Spaces.{count_of}
-use Rattle.valuation.proofs.Counted.{of_blocks, of_isins}
+use Rattle.valuation.proofs.Counted.{of_blocks}
+
+module _ {X : Type 0} (p : X → Bool) where
+  length_kept : (xs : List X) → length (keep p xs) ≡ sum_of (λ x. cond (p x) 1 0) xs
+  length_kept [] = refl
+  length_kept (x ∷ xs) = go (p x) (keep p xs) (sum_of (λ y. cond (p y) 1 0) xs) (length_kept xs)
+    where
+      go : (b : Bool) (ks : List X) (n : ℕ) → length ks ≡ n → length (cond b (x ∷ ks) ks) ≡ cond b 1 0 + n
+      go true ks n e = omega (arith, e)
+      go false ks n e = omega (arith, e)
+
+-- each line is of one ISIN of those that lines have
+of_isins : (ls : List Line) → sum_of (λ i. count_of i ls) (isins ls) ≤ length ls
+of_isins ls = omega (arith, sum_le _ _ (isins ls) (λ i. here i), once_each (λ l. 1) ls ls, ones ls)
+  where
+    here : (i : Isin) → count_of i ls ≤ sum_of (λ l. cond (same_isin l.isin i) 1 0) ls
+    here i = omega (arith, length_kept (λ l. same_isin l.isin i) ls)
+
+    ones : (ms : List Line) → sum_of (λ (m : Line). 1) ms ≡ length ms
+    ones [] = refl
+    ones (m ∷ ms) = omega (arith, ones ms)
 
 one_at_most : (ls : List Line) (r : Row) → length (if_any ls r) ≤ length ls
 one_at_most [] r = omega arith

@@ -123,7 +123,7 @@ module _ {Row X Y S : Type 0} (in_range : Row → Bool) (rank : X → ℕ) (part
         ((λ j. first j ∷ z.1.0 j), z.1.1 ∙ (ap (λ u. with_held u (put_in rank (held u) z.0)) p.1.1 ∙ over s (inserted_by rank p.0 (held s)) z.0)),
       )
 
-price_fitted : (r : PriceRow) → price_in_range r ≡ true → (is_isin r.isin.bytes && (leb lowest_price r.price && leb r.price highest_price)) ≡ true
+pub price_fitted : (r : PriceRow) → price_in_range r ≡ true → (is_isin r.isin.bytes && (leb lowest_price r.price && leb r.price highest_price)) ≡ true
 price_fitted r h =
     let fits = leb lowest_price r.price && leb r.price highest_price in
     let a = and_parts (is_isin r.isin.bytes) (fits && is_date r.maturity) h in
@@ -149,7 +149,7 @@ pub percentage_turned : (s : Quotes) (r : PercentageRow) (d : Turned) → percen
 percentage_turned s r d h e =
     turned_one percentage_rank true s.percentages (λ ps. record s { percentages = ps }) (percentage_in r) d (made_some _ _ _ (percentage_in r) (percentage_made r) h) e
 
-short : (r : PointRow) → point_in_range r ≡ true → r.term ≤ 65535
+pub short : (r : PointRow) → point_in_range r ≡ true → r.term ≤ 65535
 short r h = leb-true r.term longest_curve_term (and_parts _ (rate_fits r.rate) h).0
 
 pub points_kept : (s t : Held Point) (rows : List PointRow) → EachIn point_in_range rows → KeptAll keep_point s rows t →

@@ -1,5 +1,5 @@
 -- The promise of a run.
-use Rattle.std.specs.Prelude.{◌≡◌, ℕ, zero, suc, ◌+◌, ◌≤◌, ◌⊎◌, ◌≢◌, true, List, [], ◌∷◌, length, map, Some, Ok, Err, ℤ}
+use Rattle.std.specs.Prelude.{◌≡◌, ℕ, zero, suc, ◌+◌, ◌≤◌, ◌⊎◌, ◌≢◌, true, List, [], ◌∷◌, ◌++◌, length, map, Some, Ok, Err, ℤ}
 use Rattle.quantities.specs.Refusals.{number}
 use Rattle.quantities.specs.declared.refusal.Refusal.TheVariants.{Value, TooLong}
 use Rattle.register.specs.Keys.{inserted_by}
@@ -7,12 +7,14 @@ use Rattle.curve.specs.declared.point.Point.{Point}
 use Rattle.curve.specs.Points.{reach_of}
 use Rattle.market.specs.Records.{price_rank, price_parts, percentage_rank, percentage_parts}
 use Rattle.account.specs.declared.line.Line.{Line}
+use Rattle.account.specs.Settings.{Setting}
 use Rattle.account.specs.Calls.{given, line_rank}
-use Rattle.account.specs.Answers.{margin_answer}
+use Rattle.account.specs.Answers.{fault, margin_answer}
 use Rattle.account.specs.Rows.{statement_rows}
 use Rattle.account.specs.Margin.{margin, rounded_amounts}
 use Rattle.account.specs.Exact.{exact_margin}
 use Rattle.account.specs.Joint.{WithinCents}
+use Rattle.valuation.specs.Checks.{Faultless}
 use Rattle.text.specs.Lines.{lines}
 use Rattle.sheet.specs.Kinds.{Kind}
 use Rattle.sheet.specs.Sheets.{Left, Begun, opened, next_row, after_row}
@@ -190,17 +192,30 @@ pub record OfBook (bytes : List ℕ) (e : Refused) : Type 0 where
   pub cell : e.cell ≡ 0
   pub reference : ToldBy bytes e.line e.reference
 
--- a line that is taken has no margin
-pub record OfMargin (e : Refused) : Type 0 where
+-- the first of lines that lacks a price, a percentage or a rate, and which of them it lacks
+pub record Lacking (s : Setting) (ls : List Line) (n reference : ℕ) : Type 0 where
+  pub before : List Line
+  pub line : Line
+  pub after : List Line
+  pub lines_are : ls ≡ before ++ (line ∷ after)
+  pub none_before : Faultless s before
+  pub lacks : fault s line ≡ n
+  pub reference_is : line.reference ≡ reference
+
+-- a line that stands has no margin; the lines stand by reference, so the lowest one is told
+pub record OfMargin (bytes : List ℕ) (e : Refused) : Type 0 where
   pub layer : e.layer ≡ 3
   pub from_10 : 10 ≤ e.number
   pub to_12 : e.number ≤ 12
   pub line : e.line ≡ 0
   pub cell : e.cell ≡ 0
+  pub basis : Loaded
+  pub basis_is : loaded bytes ≡ Ok basis
+  pub lacking : Lacking basis.setting basis.standing e.number e.reference
 
 -- a refusal of those bytes is of one of four layers, with the numbers that the layer has
 abbrev pub Layered : List ℕ → Refused → Type 0
-Layered bytes e = OfRun e ⊎ (OfSheet bytes e ⊎ (OfBook bytes e ⊎ OfMargin e))
+Layered bytes e = OfRun e ⊎ (OfSheet bytes e ⊎ (OfBook bytes e ⊎ OfMargin bytes e))
 
 abbrev pub RefusalsLaw : Type 0
 RefusalsLaw = (bytes : List ℕ) (buffer : ℕ) (e : Refused) → run bytes buffer ≡ Err e → Layered bytes e

@@ -5,4 +5,5 @@ pub mod Days
 pub mod Runs
 pub mod Answers
 pub mod Laws
+pub mod Accepted
 pub mod Example

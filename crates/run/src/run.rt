@@ -9,6 +9,7 @@ use crate::keepers::day::DayKeeper;
 use crate::refusal::RunRefusal;
 use crate::state::state;
 use crate::through::keep_sheet;
+use account::by_isin::ByIsin;
 use account::line::Line;
 use book::book::Book;
 use curve::point::Point;
@@ -42,6 +43,7 @@ fn work(sheets: &[u8], buffer: &mut [u8]) -> Result<usize, RunRefusal>
     let mut percentages = [Percentage::default(); 6];
     let mut points = [Point::new(0, Rate { basis_points: 0 }); Points::MOST];
     let mut lines = [Line::default(); MOST_LINES];
+    let mut by_isin = [ByIsin::default(); MOST_LINES];
 
     let through = keep_sheet::<Days, DayKeeper>(&Input::new(sheets), &mut day)?;
     let day = day.one(&through)?;
@@ -50,7 +52,7 @@ fn work(sheets: &[u8], buffer: &mut [u8]) -> Result<usize, RunRefusal>
     let left = keep_sheet::<Percentages, Market<'_>>(&through.left, &mut market)?.left;
     let left = keep_sheet::<CurvePoints, Points<'_>>(&left, &mut curve)?.left;
     let left = keep_sheet::<Prices, Market<'_>>(&left, &mut market)?.left;
-    let mut book = Book::new(&market, &mut lines);
+    let mut book = Book::new(&market, &mut lines, &mut by_isin);
     let left = keep_sheet::<Positions, Book<'_, '_, '_>>(&left, &mut book)?.left;
     if !left.is_empty() {
         return Err(RunRefusal::of_sheet(Refusal::Trailer, left.line()));

@@ -10,7 +10,7 @@ use crate::keepers::day::KeptDay;
 use crate::refusal::RunRefusal;
 use crate::run::MOST_LINES;
 use account::call::{LineRefusal, Margin};
-use account::row::{Row, Scope};
+use account::row::{Row, Scenario, Scope};
 use book::book::Book;
 use curve::point::points::Points;
 use curve::sloping::SlopingCurve;
@@ -21,10 +21,13 @@ use rows::day::{CurveShape, Mode};
 use statement::text::write_statement;
 use valuation::margin::Statement;
 
+// How many lines most accounts have at most.
+const FEW_LINES: usize = 64;
+
 // What a place for a row holds before one is written there.
 const NO_ROW: Row = Row {
     isin: Isin { bytes: [0; 12] },
-    scope: Scope::CashOnlyLines,
+    scope: Scope::Trades(Scenario::AllTrades),
     initial_margin: 0,
     variation_margin: 0,
 };
@@ -62,6 +65,23 @@ fn stated_rows<'r>(
     Ok((given.margin, &places[..given.rows]))
 }
 
+// Writes the statement of a book that has at most as many lines as there are places.
+fn state_within<const PLACES: usize>(
+    day: &KeptDay,
+    points: &Points<'_>,
+    book: &Book<'_, '_, '_>,
+    buffer: &mut [u8],
+) -> Result<usize, RunRefusal>
+    requires { (length (lines_of book.now) ≤ PLACES) × (PLACES ≤ 1024) }
+    ensures { Ran (stated_for (length buffer.old) (account_of (row_of day.now) book.now.market.now points.now.records (lines_of book.now))) result buffer.old buffer.new }
+{
+    let mut places = [NO_ROW; PLACES];
+    // an account has at most as many rows as lines
+    let places = &mut places[..book.lines().len()];
+    let (margin, rows) = stated_rows(day, points, book, places).map_err(RunRefusal::of_margin)?;
+    write_statement(rows, margin, buffer).map_err(RunRefusal::whole)
+}
+
 /// Writes the statement of a book into a buffer, and answers its length.
 pub(crate) fn state(
     day: &KeptDay,
@@ -72,9 +92,10 @@ pub(crate) fn state(
     requires { room_for book.now ≤ 1024 }
     ensures { Ran (stated_for (length buffer.old) (account_of (row_of day.now) book.now.market.now points.now.records (lines_of book.now))) result buffer.old buffer.new }
 {
-    let mut places = [NO_ROW; MOST_LINES];
-    // an account has at most as many rows as lines
-    let places = &mut places[..book.lines().len()];
-    let (margin, rows) = stated_rows(day, points, book, places).map_err(RunRefusal::of_margin)?;
-    write_statement(rows, margin, buffer).map_err(RunRefusal::whole)
+    // places are filled before they are used, so a small account has few of them
+    if book.lines().len() <= FEW_LINES {
+        state_within::<FEW_LINES>(day, points, book, buffer)
+    } else {
+        state_within::<MOST_LINES>(day, points, book, buffer)
+    }
 }

@@ -1,10 +1,13 @@
 -- The rows of the blocks of an ISIN, tallied one after another.
-use Rattle.std.proofs.Common.{◌≡◌, ℕ, ◌+◌, ◌≤◌, List, [], ◌∷◌, length, Some, None, Option, subst, arith}
+use Rattle.std.proofs.Common.{◌≡◌, ℕ, ◌+◌, ◌≤◌, List, [], ◌∷◌, length, Some, None, Option, true, sym, subst, arith}
+use Rattle.std.specs.List.{list_all}
 use Rattle.std.specs.Option.{option_to_list}
 use Rattle.quantities.specs.declared.isin.Isin.{Isin}
+use Rattle.account.specs.declared.by_isin.ByIsin.{ByIsin}
 use Rattle.account.specs.declared.line.Line.{Line}
 use Rattle.account.specs.declared.row.Row.{Row}
-use Rattle.account.specs.Lines.{Kind, trade, failed, held, cash_only, of, keep}
+use Rattle.account.specs.ByIsin.{lines_in}
+use Rattle.account.specs.Lines.{Kind, trade, failed, held, cash_only, same_isin, of, keep}
 use Rattle.account.specs.Settings.{Setting}
 use Rattle.account.specs.Rows.{block_row, if_any, block_rows}
 use Rattle.valuation.specs.declared.tally.Tally.{Tally}
@@ -12,7 +15,7 @@ use Rattle.valuation.specs.Charged.{EachWithin}
 use Rattle.valuation.specs.Tallies.{Tallied}
 use Rattle.valuation.specs.Spaces.{count_of, RowsWithin, Space}
 use Rattle.valuation.proofs.Worst.{within_more}
-use Rattle.valuation.proofs.Counted.{of_blocks}
+use Rattle.valuation.proofs.Counted.{of_blocks, all_counted}
 use Rattle.valuation.proofs.Spaced.{within_none, within_one, space_after}
 
 -- how many lines an ISIN and block have
@@ -21,6 +24,11 @@ count_in i k ls = length (keep (of i k) ls)
 
 pub space_blocks : (i : Isin) (ls : List Line) {t : Tally} → Space (count_of i ls) t → Space (count_in i trade ls + (count_in i failed ls + (count_in i held ls + (count_in i cash_only ls + 0)))) t
 space_blocks i ls {t} s = subst (λ n. Space n t) (omega (arith, of_blocks i ls)) s
+
+-- the same of lines that are all of the ISIN
+pub space_of_blocks : (i : Isin) (xs : List ByIsin) {t : Tally} → list_all (λ l. same_isin l.isin i) (lines_in xs) ≡ true → Space (length xs) t →
+    Space (count_in i trade (lines_in xs) + (count_in i failed (lines_in xs) + (count_in i held (lines_in xs) + (count_in i cash_only (lines_in xs) + 0)))) t
+space_of_blocks i xs {t} h p = space_blocks i (lines_in xs) (subst (λ n. Space n t) (sym (all_counted i xs h)) p)
 
 pub each_more : (m n : ℕ) (o : Option Row) → m ≤ n → EachWithin m o → EachWithin n o
 each_more m n None h w = tt

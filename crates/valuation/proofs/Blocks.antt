@@ -1,17 +1,21 @@
 -- The row of a block: where there are lines, and by the name of the block.
-use Rattle.std.proofs.Common.{◌≡◌, ℕ, ◌≤◌, Bool, true, false, cond, ◌||◌, List, [], ◌∷◌, length, refl, ap, ◌∙◌, subst, arith}
+use Rattle.std.proofs.Common.{◌≡◌, ℕ, ◌≤◌, Bool, true, false, cond, ◌||◌, List, [], ◌∷◌, length, ltb, refl, ap, ◌∙◌, subst, arith}
+use Rattle.std.proofs.lemmas.Bool.{lt-ltb}
 use Rattle.quantities.specs.declared.isin.Isin.{Isin}
 use Rattle.netting.specs.Rules.{both_sides}
 use Rattle.account.specs.declared.line.Line.{Line}
 use Rattle.account.specs.declared.row.Row.{Row}
+use Rattle.account.specs.declared.row.Scope.{Scope}
 use Rattle.account.specs.declared.row.Scope.TheVariants.{FailedLines, HeldLines}
-use Rattle.account.specs.Lines.{failed, held, of, keep, any}
+use Rattle.account.specs.Lines.{Kind, failed, held, of, keep, any}
 use Rattle.account.specs.Settings.{Setting}
 use Rattle.account.specs.Rows.{row, block_row, if_any}
 use Rattle.valuation.specs.declared.block.BlockKind.{BlockKind}
+use Rattle.valuation.specs.declared.isin_sums.LineSums.{LineSums}
+use Rattle.valuation.specs.IsinSums.{SumsOf}
 use Rattle.valuation.specs.Kinds.{kind_of}
-use Rattle.valuation.specs.Scopes.{lines_in}
-use Rattle.valuation.proofs.Scopes.{lines_failed, lines_held}
+use Rattle.valuation.specs.Scopes.{all_of, lines_in}
+use Rattle.valuation.proofs.Scopes.{lines_failed, lines_held, lines_of_block}
 
 -- ---- whether there are lines
 pub any_some : (p : Line → Bool) (ls : List Line) → true ≡ any p ls → 1 ≤ length (keep p ls)
@@ -36,6 +40,17 @@ row_missing p (l ∷ ls) x e = go (p l) (row_missing p ls x) e
     go : (b : Bool) → (false ≡ any p ls → [] ≡ if_any (keep p ls) x) → false ≡ (b || any p ls) → [] ≡ if_any (cond b (l ∷ keep p ls) (keep p ls)) x
     go true h e = let z : ◌≡◌ {A = ℕ} 0 1 = cc in absurd (omega arith)
     go false h e = h e
+
+any_count : (p : Line → Bool) (ls : List Line) → ltb 0 (length (keep p ls)) ≡ any p ls
+any_count p [] = refl
+any_count p (l ∷ ls) = go (p l) (any_count p ls)
+  where
+    go : (b : Bool) → ltb 0 (length (keep p ls)) ≡ any p ls → ltb 0 (length (cond b (l ∷ keep p ls) (keep p ls))) ≡ (b || any p ls)
+    go true h = lt-ltb _ _ (omega arith)
+    go false h = h
+
+pub some_lines : (s : Setting) (i : Isin) (k : Kind) (ls : List Line) {scope : Scope} {p : LineSums} → scope ≡ all_of k → SumsOf s i scope ls p → ltb 0 p.lines ≡ any (of i k) ls
+some_lines s i k ls e h = ap (ltb 0) (h.lines ∙ ap (λ c. length (lines_in s i c ls)) e ∙ ap length (lines_of_block s i k ls)) ∙ any_count (of i k) ls
 
 -- ---- by the name of the block
 pub failed_is : (s : Setting) (i : Isin) (ls : List Line) {r : Row} → r ≡ row s both_sides i FailedLines (lines_in s i FailedLines ls) → r ≡ block_row s i failed (keep (of i failed) ls)

@@ -1,10 +1,12 @@
--- Each line is of one block, and of one ISIN of those that lines have.
-use Rattle.std.proofs.Common.{◌≡◌, ◌+◌, ◌≤◌, Bool, true, false, cond, ◌&&◌, List, [], ◌∷◌, length, refl, arith}
+-- Each line is of one block; and how many are of one ISIN.
+use Rattle.std.proofs.Common.{◌≡◌, ℕ, ◌+◌, Bool, true, false, cond, ◌&&◌, List, [], ◌∷◌, length, refl, ap, arith}
+use Rattle.std.specs.List.{list_all}
+use Rattle.std.proofs.lemmas.Bool.{and_parts}
 use Rattle.quantities.specs.declared.isin.Isin.{Isin}
+use Rattle.account.specs.declared.by_isin.ByIsin.{ByIsin}
 use Rattle.account.specs.declared.line.Line.{Line}
-use Rattle.account.specs.Lines.{Kind, trade, failed, held, cash_only, kind, same_kind, same_isin, of, keep, sum_of, isins}
-use Rattle.account.proofs.Sums.{sum_le}
-use Rattle.account.proofs.Isins.{once_each}
+use Rattle.account.specs.ByIsin.{lines_in}
+use Rattle.account.specs.Lines.{Kind, trade, failed, held, cash_only, kind, same_kind, same_isin, of, keep}
 use Rattle.valuation.specs.Spaces.{count_of}
 
 length_first : {X : Type 0} (p : X → Bool) (x : X) (xs : List X) → length (keep p (x ∷ xs)) ≡ cond (p x) 1 0 + length (keep p xs)
@@ -13,10 +15,6 @@ length_first p x xs = go (p x)
     go : (b : Bool) → length (cond b (x ∷ keep p xs) (keep p xs)) ≡ cond b 1 0 + length (keep p xs)
     go true = omega arith
     go false = omega arith
-
-length_kept : {X : Type 0} (p : X → Bool) (xs : List X) → length (keep p xs) ≡ sum_of (λ x. cond (p x) 1 0) xs
-length_kept p [] = refl
-length_kept p (x ∷ xs) = omega (arith, length_first p x xs, length_kept p xs)
 
 pub of_blocks : (i : Isin) (ls : List Line) → length (keep (of i trade) ls) + (length (keep (of i failed) ls) + (length (keep (of i held) ls) + length (keep (of i cash_only) ls))) ≡ count_of i ls
 of_blocks i [] = refl
@@ -39,12 +37,9 @@ of_blocks i (l ∷ ls) =
     go true cash_only = refl
     go false k = refl
 
-pub of_isins : (ls : List Line) → sum_of (λ i. count_of i ls) (isins ls) ≤ length ls
-of_isins ls = omega (arith, sum_le _ _ (isins ls) (λ i. here i), once_each (λ l. 1) ls ls, ones ls)
-  where
-    here : (i : Isin) → count_of i ls ≤ sum_of (λ l. cond (same_isin l.isin i) 1 0) ls
-    here i = omega (arith, length_kept (λ l. same_isin l.isin i) ls)
-
-    ones : (ms : List Line) → sum_of (λ (m : Line). 1) ms ≡ length ms
-    ones [] = refl
-    ones (m ∷ ms) = omega (arith, ones ms)
+-- lines of one ISIN are all of it
+pub all_counted : (i : Isin) (xs : List ByIsin) → list_all (λ l. same_isin l.isin i) (lines_in xs) ≡ true → count_of i (lines_in xs) ≡ length xs
+all_counted i [] h = refl
+all_counted i (x ∷ xs) h =
+    let p = and_parts (same_isin x.line.isin i) (list_all (λ l. same_isin l.isin i) (lines_in xs)) h in
+    omega (arith, length_first (λ l. same_isin l.isin i) x.line (lines_in xs), ap {B = ℕ} (λ b. cond b 1 0) p.0, all_counted i xs p.1)

@@ -1,7 +1,12 @@
 -- The check of lines, turn by turn.
-use Rattle.std.proofs.Common.{◌≡◌, ℕ, List, [], ◌∷◌, drop, Ok, Result, sym, refl, ◌∙◌, ap₂, subst}
+use Rattle.std.proofs.Common.{◌≡◌, ℕ, ◌+◌, ◌<◌, ◌≤◌, List, [], ◌∷◌, length, get_or, drop, false, add-one, drop-cons, subst, Ok, Err, Result, sym, refl, ◌∙◌, ap₂}
+use Rattle.std.specs.Result.{is_err}
 use Rattle.std.proofs.lemmas.Bool.{cond-true, eq-eqb}
+use Rattle.std.proofs.lemmas.List.{drop_all}
+use Rattle.quantities.specs.declared.refusal.Refusal.{Refusal}
+use Rattle.account.specs.declared.by_isin.ByIsin.{ByIsin}
 use Rattle.account.specs.declared.line.Line.{Line}
+use Rattle.account.specs.ByIsin.{lines_in}
 use Rattle.account.specs.declared.call.LineRefusal.{LineRefusal}
 use Rattle.account.specs.Settings.{Setting}
 use Rattle.account.specs.Margin.{margin, rounded_amounts}
@@ -10,12 +15,26 @@ use Rattle.account.specs.Answers.{fault, answer_among}
 use Rattle.account.specs.declared.row.Row.{Row}
 use Rattle.valuation.specs.declared.margin.Statement.{Statement}
 use Rattle.valuation.specs.Statements.{Stated, States}
-use Rattle.valuation.specs.Checks.{Faultless, Checked}
+use Rattle.valuation.specs.Checks.{number_or_zero, Faultless, Checked}
 
 -- ---- line by line
 -- what a check says of the lines from k on, it says of all
 pub record Clear (s : Setting) (ls : List Line) (k : ℕ) : Type 0 where
   pub rest : (r : Result (Unit {0}) LineRefusal) → Checked s (drop k ls) r → Checked s ls r
+
+-- where the lines from k on have no fault, none has one
+pub record ClearTo (s : Setting) (xs : List ByIsin) (k : ℕ) : Type 0 where
+  pub rest : Faultless s (lines_in (drop k xs)) → Faultless s (lines_in xs)
+
+pub clear_more : {s : Setting} {xs : List ByIsin} {k : ℕ} (d : ByIsin) → k < length xs → fault s (get_or xs k d).line ≡ 0 → ClearTo s xs k → ClearTo s xs (k + 1)
+clear_more {s} {xs} {k} d h e c = record { rest = λ f. c.rest (subst (λ ys. Faultless s (lines_in ys)) (sym (drop-cons xs k d h)) (e, rw add-one at f)) }
+
+pub clear_all : {s : Setting} {xs : List ByIsin} {k : ℕ} → length xs ≤ k → ClearTo s xs k → Faultless s (lines_in xs)
+clear_all {s} {xs} {k} h c = c.rest (subst (λ ys. Faultless s (lines_in ys)) (sym (drop_all k xs h)) tt)
+
+pub no_fault : (r : Result (Unit {0}) Refusal) {n : ℕ} → false ≡ is_err r → number_or_zero r ≡ n → n ≡ 0
+no_fault (Ok x) e d = sym d
+no_fault (Err w) e d = cc
 
 -- ---- where no line has a fault, the margin is given
 clear_given : (s : Setting) (all ls : List Line) → Faultless s ls → answer_among s all ls ≡ given (margin s all) (rounded_amounts all)
@@ -23,8 +42,5 @@ clear_given s all [] h = refl
 clear_given s all (l ∷ ls) h = cond-true _ _ _ (eq-eqb (fault s l) 0 h.0) ∙ clear_given s all ls h.1
 
 -- so the margin that is stated is the answer
-pub states : {s t : Setting} {ls ms : List Line} {before after : List Row} {r : Statement} → s ≡ t → ls ≡ ms → Faultless s ls → Stated s ls before after r → States t ms before after (Ok r)
-states {s} {t} {ls} {ms} {before} {after} {r} e d f m =
-    subst (λ u. States u ms before after (Ok r)) e
-    (subst (λ ks. States s ks before after (Ok r)) d
-    (ap₂ given m.cents m.rounded ∙ sym (clear_given s ls ls f), m.count, m.places))
+pub states : {s : Setting} {ls : List Line} {before after : List Row} {r : Statement} → Faultless s ls → Stated s ls before after r → States s ls before after (Ok r)
+states {s} {ls} f m = (ap₂ given m.cents m.rounded ∙ sym (clear_given s ls ls f), m.count, m.places)

@@ -1,4 +1,5 @@
 pub mod Picks
+pub mod IsinSums
 pub mod Scopes
 pub mod Worked
 pub mod Quotes
@@ -7,14 +8,14 @@ pub mod Charges
 pub mod Worst
 pub mod CashOnly
 pub mod Blocks
-pub mod Rising
-pub mod Firsts
-pub mod Onward
+pub mod Runs
 pub mod Added
 pub mod Together
 pub mod Counted
 pub mod Spaced
 pub mod Taken
 pub mod BlockTallies
+pub mod Parts
 pub mod Walked
+pub mod Reordered
 pub mod Margins

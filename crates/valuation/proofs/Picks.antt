@@ -1,13 +1,15 @@
 -- One turn of a loop over lines: what the rest of the lines gives, by the first of them and the rest after it.
-use Rattle.std.proofs.Common.{◌≡◌, ℕ, zero, suc, ◌+◌, ◌*◌, ◌<◌, ◌≤◌, Bool, true, false, cond, ◌||◌, List, [], ◌∷◌, length, get_or, drop, sym, refl, ap, ap₂, ◌∙◌, mul-le-mul_left, mul-add, inl, inr, arith}
-use Rattle.std.specs.List.{list_any, count_by, filter}
-use Rattle.std.proofs.lemmas.List.Sums.{length-filter}
+use Rattle.std.proofs.Common.{◌≡◌, ℕ, zero, suc, ◌+◌, ◌*◌, ◌<◌, ◌≤◌, Bool, true, false, cond, List, [], ◌∷◌, length, get_or, drop, sym, refl, ap, ap₂, ◌∙◌, mul-le-mul_left, mul-add, inl, inr, arith}
+use Rattle.std.specs.List.{count_by}
 use Rattle.std.proofs.lemmas.List.{at_drop_more}
+use Rattle.std.proofs.lemmas.List.Recursion.{is_count_by}
 use Rattle.account.specs.declared.line.Side.{Side}
 use Rattle.account.specs.declared.line.Side.TheVariants.{Bought, Sold}
 use Rattle.account.specs.declared.line.Block.TheVariants.{Trade}
 use Rattle.account.specs.declared.line.Line.{Line}
-use Rattle.account.specs.Lines.{if_bought, if_sold, keep, sum_of, any}
+use Rattle.account.specs.declared.by_isin.ByIsin.{ByIsin}
+use Rattle.account.specs.ByIsin.{lines_in}
+use Rattle.account.specs.Lines.{if_bought, if_sold, keep, sum_of}
 use Rattle.account.specs.Settings.{Setting}
 use Rattle.account.specs.Charges.{cash_up, cash_down, cash_charged, cash_credited}
 use Rattle.account.proofs.Sums.{sum_turn, sum_end}
@@ -74,16 +76,12 @@ pub bounded_most : {b : ℕ} {p : Line → Bool} {ls : List Line} {k n : ℕ} �
 bounded_most {b} {p} {ls} s = omega (arith, s.high, mul-le-mul_left b (kept_length p ls))
 
 -- ---- the words of the library for the same
-pub any_is : (p : Line → Bool) (ls : List Line) → list_any p ls ≡ any p ls
-any_is p [] = refl
-any_is p (l ∷ ls) = ap (λ b. p l || b) (any_is p ls)
-
-kept_is : (p : Line → Bool) (ls : List Line) → filter p ls ≡ keep p ls
-kept_is p [] = refl
-kept_is p (l ∷ ls) = ap (λ ms. cond (p l) (l ∷ ms) ms) (kept_is p ls)
-
-pub count_is : (p : Line → Bool) (ls : List Line) → count_by p ls ≡ length (keep p ls)
-count_is p ls = sym (length-filter p ls) ∙ ap length (kept_is p ls)
+pub count_is : (p : Line → Bool) (xs : List ByIsin) → count_by (λ x. p x.line) xs ≡ length (keep p (lines_in xs))
+count_is p xs = sym (is_count_by (λ ys. length (keep p (lines_in ys))) (λ x. p x.line) refl (λ y ys. go (p y.line) y.line (keep p (lines_in ys))) xs)
+  where
+    go : (b : Bool) (l : Line) (ls : List Line) → length (cond b (l ∷ ls) ls) ≡ cond b (1 + length ls) (length ls)
+    go true l ls = omega arith
+    go false l ls = refl
 
 -- ---- a line among lines
 pub has_at : (ls : List Line) (k : ℕ) → k < length ls → Has ls (line_at ls k)

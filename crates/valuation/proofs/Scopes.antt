@@ -15,7 +15,7 @@ use Rattle.account.specs.Answers.{titles_of}
 use Rattle.account.specs.Rows.{block_of}
 use Rattle.valuation.specs.declared.sums.PerSide.{PerSide}
 use Rattle.valuation.specs.Sums.{Sums}
-use Rattle.valuation.specs.Scopes.{takes_part, picked, lines_in}
+use Rattle.valuation.specs.Scopes.{all_of, takes_part, picked, lines_in}
 use Rattle.valuation.proofs.Picks.{kept_length}
 
 pub lines_split : (s : Setting) (i : Isin) (scope : Scope) (ls : List Line) → lines_in s i scope ls ≡ keep (takes_part s scope) (keep (of i (block_of scope)) ls)
@@ -79,3 +79,9 @@ lines_held s i ls = lines_split s i HeldLines ls ∙ keep_all (keep (of i held) 
 
 pub lines_cash : (s : Setting) (i : Isin) (ls : List Line) → lines_in s i CashOnlyLines ls ≡ keep (of i cash_only) ls
 lines_cash s i ls = lines_split s i CashOnlyLines ls ∙ keep_all (keep (of i cash_only) ls)
+
+pub lines_of_block : (s : Setting) (i : Isin) (k : Kind) (ls : List Line) → lines_in s i (all_of k) ls ≡ keep (of i k) ls
+lines_of_block s i trade ls = lines_all s i ls
+lines_of_block s i failed ls = lines_failed s i ls
+lines_of_block s i held ls = lines_held s i ls
+lines_of_block s i cash_only ls = lines_cash s i ls

@@ -1,15 +1,30 @@
--- A line among lines that a book has taken, without a fault, is ready.
-use Rattle.std.proofs.Common.{◌≡◌, true, ◌&&◌, List, [], ◌∷◌, subst, ⊎_elim}
+-- What a line has that is among lines that a book has taken.
+use Rattle.std.proofs.Common.{◌≡◌, ℕ, ◌≤◌, Bool, true, ◌&&◌, List, [], ◌∷◌, subst, ⊎_elim}
 use Rattle.std.proofs.lemmas.Bool.{and_parts}
+use Rattle.std.specs.List.{list_all}
+use Rattle.quantities.specs.Ranges.{most_titles}
 use Rattle.account.specs.declared.line.Line.{Line}
 use Rattle.account.specs.Settings.{Setting}
 use Rattle.account.specs.Answers.{well_formed, well_dated}
 use Rattle.account.specs.Taken.{each_taken}
-use Rattle.account.proofs.Formed.{formed_parts}
+use Rattle.account.proofs.Formed.{formed_parts, formed_titles}
 use Rattle.account.proofs.History.{dated_term}
 use Rattle.valuation.specs.Checks.{Faultless}
 use Rattle.valuation.specs.Sums.{Has}
 use Rattle.valuation.specs.Workable.{Ready}
+
+pub all_among : (p : Line → Bool) (ls : List Line) → list_all p ls ≡ true → (l : Line) → Has ls l → p l ≡ true
+all_among p [] t l h = absurd h
+all_among p (x ∷ ls) t l h =
+    let q = and_parts (p x) (list_all p ls) t in
+    ⊎_elim (λ e. subst (λ y. p y ≡ true) e q.0) (all_among p ls q.1 l) h
+
+pub few_titles_among : (today : ℕ) (ls : List Line) → each_taken today ls ≡ true → (l : Line) → Has ls l → l.titles ≤ most_titles
+few_titles_among today [] t l h = absurd h
+few_titles_among today (x ∷ ls) t l h =
+    let p = and_parts (well_formed x && well_dated today x.block) (each_taken today ls) t in
+    let q = and_parts (well_formed x) (well_dated today x.block) p.0 in
+    ⊎_elim (λ e. subst (λ y. y.titles ≤ most_titles) e (formed_titles x q.0)) (few_titles_among today ls p.1 l) h
 
 pub ready_among : (s : Setting) (ls : List Line) → each_taken s.today ls ≡ true → Faultless s ls → (l : Line) → Has ls l → Ready s l
 ready_among s [] t f l h = absurd h

@@ -1,48 +1,88 @@
 -- The rows of ISIN after ISIN, tallied.
-use Rattle.std.proofs.Common.{◌≡◌, ◌+◌, ◌<◌, List, length, Some, None, Option, sym, ap, subst, arith}
+use Rattle.std.proofs.Common.{◌≡◌, ◌<◌, ◌≤◌, true, List, [], ◌∷◌, ◌++◌, length, Some, None, sym, ap, ◌∙◌, subst, arith, length-append}
+use Rattle.std.specs.List.{slice_get, list_all}
+use Rattle.std.proofs.lemmas.Bool.{both_ways}
+use Rattle.std.proofs.lemmas.List.{length-map, map-append}
 use Rattle.quantities.specs.declared.isin.Isin.{Isin}
+use Rattle.account.specs.declared.by_isin.ByIsin.{ByIsin}
 use Rattle.account.specs.declared.line.Line.{Line}
-use Rattle.account.specs.Lines.{sum_of, TwelveBytes}
+use Rattle.account.specs.ByIsin.{lines_in}
+use Rattle.account.specs.Lines.{same_isin}
 use Rattle.account.specs.Settings.{Setting}
-use Rattle.account.specs.Rows.{isin_rows, rows_over, statement_rows}
+use Rattle.account.specs.Rows.{isin_rows, statement_rows}
+use Rattle.account.proofs.Formed.{taken_bytes}
+use Rattle.account.proofs.Terms.{same_isin_decides}
 use Rattle.valuation.specs.declared.tally.Tally.{Tally}
-use Rattle.valuation.specs.Walk.{later_isins, first_isin}
+use Rattle.valuation.specs.Walk.{OtherFirst, EachAfter}
 use Rattle.valuation.specs.Tallies.{Tallied}
-use Rattle.valuation.specs.Spaces.{count_of, RowsWithin, Space}
-use Rattle.valuation.proofs.Onward.{onward, at_the_end, from_none}
+use Rattle.valuation.specs.Spaces.{RowsWithin, Space}
+use Rattle.valuation.proofs.Parts.{Workable, first_part, later_part}
+use Rattle.valuation.proofs.Runs.{each_of, rest_after, rows_parted}
 use Rattle.valuation.proofs.Together.{tallied_none, tallied_both}
-use Rattle.valuation.proofs.Counted.{of_isins}
 use Rattle.valuation.proofs.Spaced.{space_less, space_after}
 
--- a tally that has come to the ISINs after one: with their rows it is a tally of all
-pub record Walked (s : Setting) (ls : List Line) (start : Tally) (after : Option Isin) (t : Tally) : Type 0 where
-  pub rest : (v : Tally) → Tallied (rows_over s ls (later_isins after ls)) t v → Tallied (statement_rows s ls) start v
-  pub space : Space (sum_of (λ i. count_of i ls) (later_isins after ls)) t
+-- a tally to which the rows of lines are still to come: with them it is a tally of all
+pub record Walked (s : Setting) (all : List Line) (start : Tally) (xs : List ByIsin) (t : Tally) : Type 0 where
+  pub workable : Workable s (lines_in xs)
+  pub rest : (v : Tally) → Tallied (statement_rows s (lines_in xs)) t v → Tallied (statement_rows s all) start v
+  pub space : Space (length xs) t
 
-module _ (s : Setting) (ls : List Line) {start : Tally} where
-  pub walked_none : Space (length ls) start → Walked s ls start None start
-  walked_none p =
+pub walked_none : {s : Setting} {start : Tally} (xs : List ByIsin) → Workable s (lines_in xs) → Space (length (lines_in xs)) start → Walked s (lines_in xs) start xs start
+walked_none {s} {start} xs w p = record { workable = w; rest = λ v a. a; space = subst (λ n. Space n start) (length-map xs (λ x. x.line)) p }
+
+pub walked_all : {s : Setting} {all : List Line} {start t : Tally} (xs : List ByIsin) → None ≡ slice_get xs 0 → Walked s all start xs t → Tallied (statement_rows s all) start t
+walked_all {t = t} [] e w = w.rest t (tallied_none t)
+walked_all (x ∷ xs) e w = cc
+
+-- what is taken off the front of lines: those of the first ISIN
+pub record Run (i : Isin) (xs ys zs : List ByIsin) : Type 0 where
+  pub both : xs ≡ ys ++ zs
+  pub first : 1 ≤ length ys
+  pub run : list_all (λ l. same_isin l.isin i) (lines_in ys) ≡ true
+  pub rest : OtherFirst i (lines_in zs)
+
+pub run_of : (x : ByIsin) (xs ys zs : List ByIsin) → Some x ≡ slice_get xs 0 → xs ≡ ys ++ zs → list_all (λ l. same_isin l.isin x.line.isin) (lines_in ys) ≡ true → OtherFirst x.line.isin (lines_in zs) → Run x.line.isin xs ys zs
+run_of x [] ys zs d b e o = cc
+run_of x (w ∷ xs) [] zs d b e o =
+    let q : w ≡ x = cc in
+    let p = subst (λ ws. OtherFirst x.line.isin (lines_in ws)) (sym b) o in
+    absurd (both_ways (same_isin w.line.isin x.line.isin) p ((same_isin_decides w.line.isin x.line.isin).1 (ap (λ v. v.line.isin) q)))
+run_of x (w ∷ xs) (y ∷ ys) zs d b e o = record { both = b; first = omega arith; run = e; rest = o }
+
+module _ {s : Setting} {all : List Line} {start : Tally} {i : Isin} {xs ys zs : List ByIsin} {t : Tally} (r : Run i xs ys zs) (w : Walked s all start xs t) where
+  parted : lines_in xs ≡ lines_in ys ++ lines_in zs
+  parted = ap lines_in r.both ∙ map-append (λ (x : ByIsin). x.line) ys zs
+
+  both_workable : Workable s (lines_in ys ++ lines_in zs)
+  both_workable = subst (Workable s) parted w.workable
+
+  pub run_workable : Workable s (lines_in ys)
+  run_workable = first_part s (lines_in ys) (lines_in zs) both_workable
+
+  rest_workable : Workable s (lines_in zs)
+  rest_workable = later_part s (lines_in ys) (lines_in zs) both_workable
+
+  pub run_space : Space (length ys) t
+  run_space = space_less (omega (arith, ap length r.both, length-append ys zs)) w.space
+
+  some : 1 ≤ length (lines_in ys)
+  some = omega (arith, r.first, length-map ys (λ (x : ByIsin). x.line))
+
+  later : EachAfter i (lines_in zs)
+  later =
+      rest_after 0 i (lines_in ys) (lines_in zs) (taken_bytes s.today (lines_in ys) run_workable.taken) (taken_bytes s.today (lines_in zs) rest_workable.taken)
+      (each_of i (lines_in ys) r.run) some r.rest both_workable.rising
+
+  rows_are : statement_rows s (lines_in xs) ≡ isin_rows s (lines_in ys) i ++ statement_rows s (lines_in zs)
+  rows_are = ap (statement_rows s) parted ∙ rows_parted s i (lines_in ys) (lines_in zs) (each_of i (lines_in ys) r.run) later some
+
+  pub walked_more : {u : Tally} → Tallied (isin_rows s (lines_in ys) i) t u → RowsWithin (length ys) (isin_rows s (lines_in ys) i) → Walked s all start zs u
+  walked_more {u} a p =
       record {
-        rest = λ v a. subst (λ is. Tallied (rows_over s ls is) start v) (from_none ls) a;
-        space = subst (λ is. Space (sum_of (λ i. count_of i ls) is) start) (sym (from_none ls)) (space_less (of_isins ls) p);
+        workable = rest_workable;
+        rest = λ v b. w.rest v (subst (λ rows. Tallied rows t v) (sym rows_are) (tallied_both a b));
+        space = space_after (space_less (omega (arith, ap length r.both, length-append ys zs)) w.space) p a;
       }
 
-  module _ (after : Option Isin) (i : Isin) {t : Tally} (twelve : TwelveBytes ls) (e : Some i ≡ first_isin (later_isins after ls)) where
-    space_here : Walked s ls start after t → Space (count_of i ls + sum_of (λ j. count_of j ls) (later_isins (Some i) ls)) t
-    space_here w = subst (λ is. Space (sum_of (λ j. count_of j ls) is) t) (onward after i ls twelve e) w.space
-
-    pub space_next : Walked s ls start after t → Space (count_of i ls) t
-    space_next w = space_less (omega arith) (space_here w)
-
-    pub walked_more : {u : Tally} → Tallied (isin_rows s ls i) t u → RowsWithin (count_of i ls) (isin_rows s ls i) → Walked s ls start after t → Walked s ls start (Some i) u
-    walked_more {u} a r w =
-        record {
-          rest = λ v b. w.rest v (subst (λ is. Tallied (rows_over s ls is) t v) (sym (onward after i ls twelve e)) (tallied_both a b));
-          space = space_after (space_here w) r a;
-        }
-
-  pub walked_all : (after : Option Isin) {t : Tally} → None ≡ first_isin (later_isins after ls) → Walked s ls start after t → Tallied (statement_rows s ls) start t
-  walked_all after {t} e w = w.rest t (subst (λ is. Tallied (rows_over s ls is) t t) (sym (at_the_end (later_isins after ls) e)) (tallied_none t))
-
-pub walk_falls : (after : Option Isin) (i : Isin) (ls : List Line) → TwelveBytes ls → Some i ≡ first_isin (later_isins after ls) → length (later_isins (Some i) ls) < length (later_isins after ls)
-walk_falls after i ls twelve e = omega (arith, ap length (onward after i ls twelve e))
+  pub walk_falls : length zs < length xs
+  walk_falls = omega (arith, r.first, ap length r.both, length-append ys zs)

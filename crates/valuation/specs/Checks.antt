@@ -1,18 +1,34 @@
 -- What the check of lines says.
-use Rattle.std.specs.Prelude.{◌≡◌, ℕ, List, [], ◌∷◌, Ok, Err, Result}
+use Rattle.std.specs.Prelude.{◌≡◌, ℕ, cond, not, nat_lt, List, [], ◌∷◌, IfSome, Ok, Err, Result}
 use Rattle.std.specs.Coded.{Coded-set, coded_ℕ, ×_prop, Unit-prop}
+use Rattle.quantities.specs.declared.isin.Isin.{Isin}
 use Rattle.quantities.specs.declared.refusal.Refusal.{Refusal}
+use Rattle.quantities.specs.declared.refusal.Refusal.TheVariants.{NoPrice, NoPercentage, NoRate}
 use Rattle.quantities.specs.Refusals.{number}
 use Rattle.account.specs.declared.line.Line.{Line}
 use Rattle.account.specs.declared.call.LineRefusal.{LineRefusal}
-use Rattle.account.specs.Settings.{Setting}
+use Rattle.account.specs.Settings.{Setting, has_price, has_percentage}
 use Rattle.account.specs.Calls.{refused}
 use Rattle.account.specs.Answers.{fault, answer_among}
+use Rattle.valuation.specs.declared.check.Found.{Found}
 
 -- the number of the refusal of a check, or 0 where it passes
 abbrev pub number_or_zero : Result (Unit {0}) Refusal → ℕ
 number_or_zero (Ok _) = 0
 number_or_zero (Err r) = number r
+
+-- the refusal of an ISIN without price or percentage, or 0
+abbrev pub quote_fault : Setting → Isin → ℕ
+quote_fault s i = cond (not (has_price s i)) (number NoPrice) (cond (not (has_percentage s i)) (number NoPercentage) 0)
+
+-- the refusal of a term without a rate, or 0
+abbrev pub rate_fault : Setting → ℕ → ℕ
+rate_fault s term = cond (nat_lt term s.reach) 0 (number NoRate)
+
+-- what has been found has a quote and a rate
+pub record Known (s : Setting) (f : Found) : Type 0 where
+  pub quoted : IfSome f.isin (λ i. quote_fault s i ≡ 0)
+  pub rated : IfSome f.term (λ term. rate_fault s term ≡ 0)
 
 -- no line has a fault
 abbrev pub Faultless : Setting → List Line → Type 0

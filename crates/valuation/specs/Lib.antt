@@ -2,6 +2,7 @@ pub mod Setups
 pub mod Scopes
 pub mod Workable
 pub mod Sums
+pub mod IsinSums
 pub mod Quotes
 pub mod Checks
 pub mod Kinds

@@ -6,9 +6,16 @@ use Rattle.account.specs.declared.row.Scenario.{Scenario}
 use Rattle.account.specs.declared.row.Scenario.TheVariants.{AllTrades, WithoutToday, WithoutNext}
 use Rattle.account.specs.declared.row.Scope.{Scope}
 use Rattle.account.specs.declared.row.Scope.TheVariants.{Trades, FailedLines, HeldLines, CashOnlyLines}
-use Rattle.account.specs.Lines.{date, of, keep}
+use Rattle.account.specs.Lines.{Kind, trade, failed, held, cash_only, date, kind, same_kind, of, keep}
 use Rattle.account.specs.Settings.{Setting}
 use Rattle.account.specs.Rows.{block_of}
+
+-- the scope that leaves no line of a block out
+abbrev pub all_of : Kind → Scope
+all_of trade = Trades AllTrades
+all_of failed = FailedLines
+all_of held = HeldLines
+all_of cash_only = CashOnlyLines
 
 -- whether a trade of a date takes part in a scenario
 abbrev pub settles_in : Setting → Scenario → ℕ → Bool
@@ -22,6 +29,10 @@ takes_part s (Trades n) l = settles_in s n (date l.block)
 takes_part s FailedLines l = true
 takes_part s HeldLines l = true
 takes_part s CashOnlyLines l = true
+
+-- whether a line is of the block of a row and takes part in it
+abbrev pub taken : Setting → Scope → Line → Bool
+taken s scope l = same_kind (kind l.block) (block_of scope) && takes_part s scope l
 
 -- whether a line is worked on for the row of an ISIN
 abbrev pub picked : Setting → Isin → Scope → Line → Bool

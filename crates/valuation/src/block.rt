@@ -1,10 +1,9 @@
 //! The blocks of a margin.
-ghost use Rattle.account.specs.Lines.{kind, of, any};
+ghost use Rattle.account.specs.Lines.{kind};
 ghost use Rattle.valuation.specs.Kinds.{kind_of};
 ghost use Rattle.std.specs.Prelude.{◌≡◌};
 
 use account::line::{Block, Line};
-use quantities::isin::Isin;
 
 /// A block of lines, without their dates.
 #[derive(Clone, Copy, PartialEq, Eq, Debug)]
@@ -27,19 +26,4 @@ impl From<Block> for BlockKind {
             Block::CashOnly(_) => BlockKind::CashOnly,
         }
     }
-}
-
-/// Whether a line is of an ISIN and block.
-// The two stay apart: the walk holds the ISIN still and goes through the blocks.
-pub fn is_of(line: &Line, isin: Isin, kind: BlockKind) -> bool
-    ensures { result ≡ of isin (kind_of kind) line.now }
-{
-    line.isin == isin && BlockKind::from(line.block) == kind
-}
-
-/// Whether an ISIN has a line in a block.
-pub(crate) fn has_lines(lines: &[Line], isin: Isin, kind: BlockKind) -> bool
-    ensures { result ≡ any (of isin (kind_of kind)) lines.now }
-{
-    lines.iter().any(|line| is_of(line, isin, kind))
 }

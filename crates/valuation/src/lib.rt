@@ -4,7 +4,8 @@
 mod basis;
 pub mod block;
 mod check;
-mod isins;
+mod isin_lines;
+mod isin_sums;
 pub mod margin;
 pub mod portfolio;
 mod quote;
@@ -12,6 +13,7 @@ mod ready;
 mod rows;
 mod scope;
 pub mod setup;
+mod summed;
 mod sums;
 mod tally;
 mod walk;

@@ -1,5 +1,6 @@
 //! The margin of lines, and its statement.
 ghost use Rattle.std.specs.Prelude.{◌≡◌, ◌+◌, ◌*◌, ◌≤◌, length};
+ghost use Rattle.account.specs.ByIsin.{lines_in};
 ghost use Rattle.account.specs.Lines.{is_trade, keep};
 ghost use Rattle.account.specs.Margin.{not_below_zero};
 ghost use Rattle.valuation.specs.Spaces.{ChargesWithin, TallyWithin};
@@ -8,8 +9,9 @@ ghost use Rattle.valuation.specs.Statements.{Stated};
 use crate::basis::Basis;
 use crate::ready::ReadyLines;
 use crate::tally::Tally;
+use account::by_isin::ByIsin;
 use account::call::Margin;
-use account::line::{Block, Line};
+use account::line::Block;
 use account::row::Row;
 use quantities::amount::{Cents, SignedCents};
 
@@ -31,14 +33,14 @@ fn not_below_zero(charges: SignedCents) -> Cents
 }
 
 // How many lines are trades.
-fn trades_in(lines: &[Line]) -> u32
-    requires { length lines.now ≤ 65535 }
-    ensures is { result ≡ length (keep is_trade lines.now) }
+fn trades_in(lines: &[ByIsin]) -> u32
+    requires { length (lines_in lines.now) ≤ 65535 }
+    ensures is { result ≡ length (keep is_trade (lines_in lines.now)) }
     ensures few { result ≤ 65535 }
 {
     let trades = lines
         .iter()
-        .filter(|line| matches!(line.block, Block::Trade(_)));
+        .filter(|standing| matches!(standing.line.block, Block::Trade(_)));
     trades.count() as u32
 }
 
@@ -61,7 +63,7 @@ fn total(tally: &Tally<'_>, trades: u32) -> Margin
 impl<'a, B: Basis> ReadyLines<'a, B> {
     /// The margin of the lines; the rows of its statement are written as far as there are places.
     pub(crate) fn statement(&self, rows: &mut [Row]) -> Statement
-        ensures { Stated (B.setting self.now.basis.now) self.now.lines.now rows.old rows.new result }
+        ensures { Stated (B.setting self.now.basis.now) (lines_in self.now.lines.now) rows.old rows.new result }
     {
         let mut tally = Tally::new(rows);
         self.add_rows(&mut tally);

@@ -1,14 +1,11 @@
 //! The lines that a row is worked on.
-ghost use Rattle.account.specs.Lines.{kind, same_kind};
-ghost use Rattle.account.specs.Rows.{block_of};
-ghost use Rattle.valuation.specs.Scopes.{settles_in, takes_part, picked};
-ghost use Rattle.std.specs.Prelude.{◌≡◌, ◌&&◌};
+ghost use Rattle.valuation.specs.Scopes.{settles_in, taken};
+ghost use Rattle.std.specs.Prelude.{◌≡◌};
 
 use crate::basis::Basis;
 use account::line::{Block, Line};
 use account::row::{Scenario, Scope};
 use quantities::date::Date;
-use quantities::isin::Isin;
 
 // Whether a trade of that date takes part in a scenario.
 fn settles_in<B: Basis>(basis: &B, scenario: Scenario, date: Date) -> bool
@@ -22,31 +19,15 @@ fn settles_in<B: Basis>(basis: &B, scenario: Scenario, date: Date) -> bool
     }
 }
 
-/// Which row: that of an ISIN and scope.
-#[derive(Clone, Copy)]
-pub(crate) struct RowKey {
-    pub isin: Isin,
-    pub scope: Scope,
-}
-
-impl RowKey {
-    // Whether a line is of the block of the row and takes part in it.
-    fn takes<B: Basis>(self, basis: &B, line: &Line) -> bool
-        ensures { result ≡ (same_kind (kind line.now.block) (block_of self.scope) && takes_part (B.setting basis.now) self.scope line.now) }
-    {
-        match (self.scope, line.block) {
-            (Scope::Trades(scenario), Block::Trade(date)) => settles_in(basis, scenario, date),
-            (Scope::FailedLines, Block::Failed(_)) => true,
-            (Scope::HeldLines, Block::Held(_)) => true,
-            (Scope::CashOnlyLines, Block::CashOnly(_)) => true,
-            _ => false,
-        }
-    }
-
-    /// Whether a line is worked on for the row.
-    pub(crate) fn picks<B: Basis>(self, basis: &B, line: &Line) -> bool
-        ensures { result ≡ picked (B.setting basis.now) self.isin self.scope line.now }
-    {
-        line.isin == self.isin && self.takes(basis, line)
+/// Whether a line is of the block of a row and takes part in it.
+pub(crate) fn takes<B: Basis>(basis: &B, scope: Scope, line: &Line) -> bool
+    ensures { result ≡ taken (B.setting basis.now) scope line.now }
+{
+    match (scope, line.block) {
+        (Scope::Trades(scenario), Block::Trade(date)) => settles_in(basis, scenario, date),
+        (Scope::FailedLines, Block::Failed(_)) => true,
+        (Scope::HeldLines, Block::Held(_)) => true,
+        (Scope::CashOnlyLines, Block::CashOnly(_)) => true,
+        _ => false,
     }
 }

@@ -1,40 +1,48 @@
 //! The rows of lines, ISIN by ISIN in byte order.
-ghost use Rattle.std.specs.Prelude.{length};
-ghost use Rattle.account.specs.Rows.{isin_rows, statement_rows};
-ghost use Rattle.valuation.specs.Spaces.{count_of, RowsWithin, TallyWithin, Space};
+ghost use Rattle.std.specs.Prelude.{◌≡◌, ◌++◌, true, length};
+ghost use Rattle.std.specs.List.{list_all};
+ghost use Rattle.account.specs.ByIsin.{lines_in};
+ghost use Rattle.account.specs.Lines.{same_isin};
+ghost use Rattle.account.specs.Rows.{statement_rows};
+ghost use Rattle.valuation.specs.Spaces.{TallyWithin, Space};
 ghost use Rattle.valuation.specs.Tallies.{Tallied};
+ghost use Rattle.valuation.specs.Walk.{OtherFirst};
 
 use crate::basis::Basis;
-use crate::block::BlockKind;
-use crate::isins::next_isin;
+use crate::isin_lines::IsinLines;
 use crate::ready::ReadyLines;
 use crate::tally::Tally;
+use account::by_isin::ByIsin;
 use quantities::isin::Isin;
 
-impl<'a, B: Basis> ReadyLines<'a, B> {
-    // Adds the rows of an ISIN: trades, failed, held, cash-only.
-    fn add_isin(&self, isin: Isin, tally: &mut Tally<'_>)
-        requires { Space (count_of isin self.now.lines.now) tally.old }
-        ensures tallied { Tallied (isin_rows (B.setting self.now.basis.now) self.now.lines.now isin) tally.old tally.new }
-        ensures within { RowsWithin (count_of isin self.now.lines.now) (isin_rows (B.setting self.now.basis.now) self.now.lines.now isin) }
-    {
-        tally.add_if_any(self.block_row(isin, BlockKind::Trades));
-        tally.add_if_any(self.block_row(isin, BlockKind::Failed));
-        tally.add_if_any(self.block_row(isin, BlockKind::Held));
-        tally.add_if_any(self.block_row(isin, BlockKind::CashOnly));
-    }
+// The lines before the first one that is not of an ISIN, and the others.
+fn split_isin(lines: &[ByIsin], isin: Isin) -> (&[ByIsin], &[ByIsin])
+    ensures both { lines.now ≡ result.0.now ++ result.1.now }
+    ensures run { list_all (λ l. same_isin l.isin isin) (lines_in result.0.now) ≡ true }
+    ensures rest { OtherFirst isin (lines_in result.1.now) }
+{
+    let other = lines.iter().position(|next| next.line.isin != isin);
+    lines.split_at(other.unwrap_or(lines.len()))
+}
 
+impl<'a, B: Basis> ReadyLines<'a, B> {
     /// Adds the rows of every ISIN that has a line, in byte order.
     pub(crate) fn add_rows(&self, tally: &mut Tally<'_>)
-        requires { Space (length self.now.lines.now) tally.old }
-        ensures tallied { Tallied (statement_rows (B.setting self.now.basis.now) self.now.lines.now) tally.old tally.new }
+        requires { Space (length (lines_in self.now.lines.now)) tally.old }
+        ensures tallied { Tallied (statement_rows (B.setting self.now.basis.now) (lines_in self.now.lines.now)) tally.old tally.new }
         ensures within { TallyWithin 65535 tally.new }
     {
-        // Asked again until there is none: each ISIN follows from the one before, and no items are at hand.
-        let mut after = None;
-        while let Some(isin) = next_isin(self.lines, after) {
-            self.add_isin(isin, tally);
-            after = Some(isin);
+        let mut rest = self.lines;
+        while let Some(first) = rest.first() {
+            let isin = first.line.isin;
+            let (lines, later) = split_isin(rest, isin);
+            let run = IsinLines {
+                basis: self.basis,
+                isin,
+                lines,
+            };
+            run.add_to(tally);
+            rest = later;
         }
     }
 }

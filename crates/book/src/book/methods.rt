@@ -1,13 +1,14 @@
-ghost use Rattle.std.specs.Prelude.{◌≡◌, ◌≤◌, min, [], length};
+ghost use Rattle.std.specs.Prelude.{◌≡◌, ◌≤◌, true, min, [], length, MatchOption};
 ghost use Rattle.book.specs.Books.{lines_of, room_for, today_of, setting_for, Enters, Withdraws, Takes, TakesAll};
 ghost use Rattle.account.specs.Calls.{line_rank, told_margin};
-ghost use Rattle.register.specs.Keys.{Ascends};
+ghost use Rattle.register.specs.Keys.{Ascends, has_rank};
 ghost use Rattle.valuation.specs.Statements.{States};
-ghost use Rattle.account.specs.Answers.{margin_answer};
-ghost use Rattle.book.specs.Checks.{Admits};
+ghost use Rattle.account.specs.Answers.{margin_answer, well_formed};
+ghost use Rattle.book.specs.Checks.{Placed, Admits};
 
-use super::Book;
+use super::{Book, Places};
 use crate::check::{check_date, check_form, check_titles};
+use account::by_isin::ByIsin;
 use account::call::{Answer, Call, LineRefusal, Margin, Reply};
 use account::line::Line;
 use account::row::Row;
@@ -15,20 +16,27 @@ use curve::Curve;
 use market::market::Market;
 use netting::NettingRule;
 use quantities::refusal::Refusal;
+use register::record::Record;
 use register::register::Register;
 use valuation::margin::Statement;
 use valuation::portfolio::Portfolio;
 use valuation::setup::Setup;
 
 impl<'m, 'p, 'l> Book<'m, 'p, 'l> {
-    /// A book in which no line stands, over a market and memory for lines.
-    pub fn new(market: &'m Market<'p>, places: &'l mut [Line]) -> Self
+    /// A book in which no line stands, over a market and memory for lines by reference and by ISIN: it has room for as many as either.
+    pub fn new(market: &'m Market<'p>, places: &'l mut [Line], by_isin: &'l mut [ByIsin]) -> Self
         ensures empty { lines_of result ≡ [] }
-        ensures room { room_for result ≡ min (length places.old) 65535 }
+        ensures room { room_for result ≡ min (min (length places.old) (length by_isin.old)) 65535 }
         ensures market { result.market.now ≡ market.now }
     {
-        let lines = Register::new(places);
-        Book { market, lines }
+        let room = places.len().min(by_isin.len());
+        let lines = Register::new(&mut places[..room]);
+        let by_isin = Register::new(&mut by_isin[..room]);
+        Book {
+            market,
+            lines,
+            by_isin,
+        }
     }
 
     /// The lines that stand, by reference.
@@ -41,24 +49,41 @@ impl<'m, 'p, 'l> Book<'m, 'p, 'l> {
         self.lines.records()
     }
 
-    // The checks of a line, in their order, before a place is sought for it.
-    fn admit(&self, line: &Line) -> Result<(), Refusal>
-        ensures { Admits (today_of self.now) (lines_of self.now) line.now result }
+    // The places that a line would have, and none where its reference stands.
+    fn places_for(&self, line: &Line) -> Option<Places>
+        requires { well_formed line.now ≡ true }
+        ensures ascends { Ascends line_rank self.now.lines.records }
+        ensures places { MatchOption result (has_rank line_rank line.now.reference self.now.lines.records ≡ true) (λ places. Placed self.now.lines.records self.now.by_isin.records line.now places) }
+    {
+        let by_reference = self.lines.place_of(line.reference).err()?;
+        let by_isin = self.by_isin.place_of(ByIsin { line: *line }.key()).err()?;
+        Some(Places {
+            by_reference,
+            by_isin,
+        })
+    }
+
+    // The checks of a line, in their order, and the places that it would have.
+    fn admit(&self, line: &Line) -> Result<Places, Refusal>
+        ensures { Admits (today_of self.now) self.now.lines.records self.now.by_isin.records line.now result }
     {
         check_form(line)?;
-        if self.lines.find(line.reference).is_some() {
+        let Some(places) = self.places_for(line) else {
             return Err(Refusal::KeyPresent);
-        }
+        };
         check_date(self.market.today(), line.block)?;
-        check_titles(self.lines(), line)
+        let (before, after) = self.by_isin.records().split_at(places.by_isin);
+        check_titles(before, after, line)?;
+        Ok(places)
     }
 
     /// Enters a line: refused 4 for its form, 6 for its reference, 7 for its date, 8 for its titles, 9 for want of a place.
     pub fn enter(&mut self, line: Line) -> Result<(), Refusal>
         ensures { Enters line self.old result self.new }
     {
-        self.admit(&line)?;
-        self.lines.insert(line)
+        let places = self.admit(&line)?;
+        self.lines.insert_near(places.by_reference, line)?;
+        self.by_isin.insert_near(places.by_isin, ByIsin { line })
     }
 
     /// Takes out the line of a reference, and answers it.
@@ -68,7 +93,9 @@ impl<'m, 'p, 'l> Book<'m, 'p, 'l> {
         if reference == 0 {
             return Err(Refusal::Value);
         }
-        self.lines.remove(reference)
+        let line = self.lines.remove(reference)?;
+        self.by_isin.remove(ByIsin { line }.key())?;
+        Ok(line)
     }
 
     // The lines that stand, with what their margin is worked on.
@@ -77,6 +104,7 @@ impl<'m, 'p, 'l> Book<'m, 'p, 'l> {
         ensures curve { result.setup.curve.now ≡ curve.now }
         ensures rule { result.setup.rule.now ≡ rule.now }
         ensures lines { result.lines.now ≡ lines_of self.now }
+        ensures by_isin { result.by_isin.now ≡ self.now.by_isin.records }
     {
         let setup = Setup {
             market: &*self.market,
@@ -86,6 +114,7 @@ impl<'m, 'p, 'l> Book<'m, 'p, 'l> {
         Portfolio {
             setup,
             lines: self.lines.records(),
+            by_isin: self.by_isin.records(),
         }
     }
 

@@ -19,7 +19,7 @@ impl<'a, 'p, C: Curve, N: NettingRule> Portfolio<'a, 'p, C, N> {
     pub fn statement(&self, rows: &mut [Row]) -> Result<Statement, LineRefusal>
         ensures { States (setting_of C.Curve.reach C.Curve.rate N.NettingRule.charged self.now.setup) self.now.lines.now rows.old rows.new result }
     {
-        let ready = ReadyLines::check(&self.setup, self.lines)?;
+        let ready = ReadyLines::check(&self.setup, self.lines, self.by_isin)?;
         Ok(ready.statement(rows))
     }
 

@@ -1,4 +1,5 @@
 use Rattle.account.proofs.Answered.{joint_law, cents_law, given_law}
+use Rattle.account.proofs.ByIsin.{by_isin_law}
 use Rattle.account.proofs.Blocks.{worst_law, no_lines_law}
 use Rattle.account.proofs.Cents.{cents_bound}
 use Rattle.account.proofs.History.{history_law}
@@ -10,6 +11,7 @@ pub returns : goal.returns
 returns c =
     record {
       isins_law = isins_law;
+      by_isin_law = by_isin_law;
       worst_law = worst_law;
       no_lines_law = no_lines_law;
       joint_bound = joint_bound;

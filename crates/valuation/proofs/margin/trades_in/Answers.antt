@@ -6,4 +6,4 @@ use Rattle.valuation.proofs.Picks.{count_is}
 use Rattle.valuation.proofs.margin.trades_in.Goals as goal
 
 pub returns-clause-is : goal.returns-clause-is
-returns-clause-is c = let counted : c.count.result ≡ count_by is_trade c.args.lines.now = search (rules, chains) in counted ∙ count_is is_trade c.args.lines.now
+returns-clause-is c = let counted : c.count.result ≡ count_by (λ x. is_trade x.line) c.args.lines.now = search (rules, chains) in counted ∙ count_is is_trade c.args.lines.now

@@ -1,26 +1,38 @@
-use Rattle.std.proofs.Common.{refl}
-use Rattle.book.specs.Books.{today_of, room_for, lines_of}
+use Rattle.std.proofs.Common.{refl, Ok, sym, ◌∙◌}
+use Rattle.book.specs.Books.{today_of, room_for}
+use Rattle.account.proofs.ByIsin.{formed_small, taken_small}
 use Rattle.book.proofs.Entering.{enter_answers, enter_leaves}
 use Rattle.book.proofs.Taken.{insert_taken, insert_titles}
+use Rattle.book.proofs.Both.{entered_twice, same_entered}
 use Rattle.book.proofs.book.Book.enter.Goals as goal
 
-pub invariant_of-self : goal.invariant_of-self
-invariant_of-self c =
+pub invariant_of-self-2 : goal.invariant_of-self-2
+invariant_of-self-2 c =
     let b = c.args.self.now in
-    let i = c.insert.ensures.change in
-    let a = c.in_ok-admit.ensures in
+    let ls = b.lines.records in
+    let l = c.args.line in
+    let i = c.in_ok-insert_near.ensures.change in
+    let a = c.in_ok-places.ensures.0 in
+    let p = c.in_ok-places.ensures.1 in
     record {
-      taken = insert_taken (today_of b) (room_for b) c.args.line (lines_of b) _ a i.leaves b.taken;
-      titles = insert_titles (today_of b) (room_for b) c.args.line (lines_of b) _ a i.leaves b.titles;
+      same_lines = same_entered ls b.by_isin.records (taken_small (today_of b) ls b.taken) b.same_lines (room_for b) b.by_isin.room l _ _ c.insert_near-2.result b.same_room a.new p.by_isin.1.absent i c.insert_near-2.ensures.change (formed_small l a.formed);
+      same_room = c.insert_near-2.ensures.room ∙ b.same_room ∙ sym c.in_ok-insert_near.ensures.room;
+      taken = insert_taken (today_of b) (room_for b) l ls _ a i.leaves b.taken;
+      titles = insert_titles (today_of b) (room_for b) l ls _ a i.leaves b.titles;
     }
 
 pub returns : goal.returns
 returns c =
     let b = c.args.self.now in
-    let i = c.insert.ensures.change in
-    let a = c.in_ok-admit.ensures in
+    let ls = b.lines.records in
+    let l = c.args.line in
+    let i = c.in_ok-insert_near.ensures.change in
+    let a = c.in_ok-places.ensures.0 in
+    let p = c.in_ok-places.ensures.1 in
+    let twice = entered_twice ls b.by_isin.records (taken_small (today_of b) ls b.taken) b.same_lines (room_for b) b.by_isin.room l _ _ c.insert_near-2.result b.same_room a.new p.by_isin.1.absent i c.insert_near-2.ensures.change in
+    rw twice
     record {
-      answers = enter_answers (today_of b) (room_for b) c.args.line (lines_of b) _ c.insert.result a i;
-      leaves = enter_leaves (today_of b) (room_for b) c.args.line (lines_of b) _ c.insert.result a i;
-      frame = record { market = refl; room = c.insert.ensures.room };
+      answers = enter_answers (today_of b) (room_for b) l ls _ (Ok tt) a i;
+      leaves = enter_leaves (today_of b) (room_for b) l ls _ (Ok tt) a i;
+      frame = record { market = refl; room = c.in_ok-insert_near.ensures.room };
     }

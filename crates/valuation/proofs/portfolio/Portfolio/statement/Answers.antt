@@ -1,13 +1,15 @@
 use Rattle.std.proofs.Common.{refl, sym, ap}
 use Rattle.std.proofs.lemmas.Result.{err_from_is_err_and}
 use Rattle.valuation.specs.Setups.{setting_of}
-use Rattle.valuation.proofs.Faults.{states}
+use Rattle.valuation.proofs.Reordered.{states_same}
 use Rattle.valuation.proofs.portfolio.Portfolio.statement.Goals as goal
 
 pub returns : goal.returns
 returns g c =
+    let p = c.args.self.now in
     let e = c.in_ok-ready.ensures in
-    states (ap (setting_of g.C.Curve.reach g.C.Curve.rate g.N.NettingRule.charged) e.0) e.1 c.in_ok-ready.ready.faultless c.statement.ensures
+    let meaning = setting_of g.C.Curve.reach g.C.Curve.rate g.N.NettingRule.charged in
+    states_same (meaning p.setup) p.lines.now p.by_isin.now p.ordered p.ascends p.taken (ap meaning e.0) e.1 e.2 c.statement.ensures
 
 pub returns-in_err-ready : goal.returns-in_err-ready
 returns-in_err-ready g c =

@@ -1,24 +1,30 @@
-use Rattle.account.proofs.Formed.{taken_bytes}
 use Rattle.valuation.proofs.Spaced.{space_within}
-use Rattle.valuation.proofs.Walked.{walked_none, space_next, walked_more, walk_falls, walked_all}
+use Rattle.valuation.proofs.Walked.{Run, run_of, walked_none, run_workable, run_space, walked_more, walk_falls, walked_all}
+use Rattle.valuation.proofs.ready.ReadyLines.add_rows.Given.{Over}
 use Rattle.valuation.proofs.ready.ReadyLines.add_rows.Goals as goal
+use Rattle.valuation.proofs.ready.ReadyLines.add_rows.Goals.{After-split_isin}
 
-pub loop-isin-init : goal.loop-isin-init
-loop-isin-init g c = walked_none _ _ c.requires
+run : (g : Over) (c : After-split_isin g) → Run c.in-Some.first.now.line.isin c.loop-first.rest.now c.split_isin.result.0.now c.split_isin.result.1.now
+run g c = run_of c.in-Some.first.now c.loop-first.rest.now c.split_isin.result.0.now c.split_isin.result.1.now c.in-Some.ensures.value c.split_isin.ensures.both c.split_isin.ensures.run c.split_isin.ensures.rest
 
-pub add_isin-requires : goal.add_isin-requires
-add_isin-requires g c =
-    space_next _ _ c.loop-isin.after c.in-Some.isin (taken_bytes _ c.args.self.now.lines.now c.args.self.now.taken) c.in-Some.ensures c.loop-isin.invariant
+pub loop-first-init : goal.loop-first-init
+loop-first-init g c =
+    let r = c.args.self.now in
+    walked_none r.lines.now (record { few = r.few; taken = r.taken; titles = r.titles; faultless = r.faultless; rising = r.rising }) c.requires
 
-pub loop-isin-smaller : goal.loop-isin-smaller
-loop-isin-smaller g c = walk_falls c.loop-isin.after c.in-Some.isin c.args.self.now.lines.now (taken_bytes _ c.args.self.now.lines.now c.args.self.now.taken) c.in-Some.ensures
+pub invariant_of-run : goal.invariant_of-run
+invariant_of-run g c =
+    let w = run_workable (run g (goal.at.invariant_of-run g c).After-split_isin) c.loop-first.invariant in
+    record { few = w.few; taken = w.taken; titles = w.titles; faultless = w.faultless; same = c.split_isin.ensures.run }
 
-pub loop-isin-preserved : goal.loop-isin-preserved
-loop-isin-preserved g c =
-    walked_more _ _ c.loop-isin.after c.in-Some.isin (taken_bytes _ c.args.self.now.lines.now c.args.self.now.taken) c.in-Some.ensures c.add_isin.ensures.tallied c.add_isin.ensures.within c.loop-isin.invariant
+pub add_to-requires : goal.add_to-requires
+add_to-requires g c = run_space (run g (goal.at.add_to-requires g c).After-split_isin) c.loop-first.invariant
+
+pub loop-first-smaller : goal.loop-first-smaller
+loop-first-smaller g c = walk_falls (run g (goal.at.loop-first-smaller g c).After-split_isin) c.loop-first.invariant
+
+pub loop-first-preserved : goal.loop-first-preserved
+loop-first-preserved g c = walked_more (run g (goal.at.loop-first-preserved g c).After-split_isin) c.loop-first.invariant c.add_to.ensures.tallied c.add_to.ensures.within
 
 pub returns : goal.returns
-returns g c = record { tallied = walked_all _ _ c.loop-isin.after c.in_default.ensures c.loop-isin.invariant; within = space_within c.loop-isin.invariant.space }
-
-pub next_isin-requires : goal.next_isin-requires
-next_isin-requires g c = taken_bytes _ c.args.self.now.lines.now c.args.self.now.taken
+returns g c = record { tallied = walked_all c.loop-first.rest.now c.in_default.ensures.value c.loop-first.invariant; within = space_within c.loop-first.invariant.space }

@@ -1,0 +1,90 @@
+-- The sums of the lines of one ISIN, line by line.
+use Rattle.std.proofs.Common.{◌≡◌, ℕ, ◌+◌, ◌<◌, ◌≤◌, Bool, true, false, cond, ◌&&◌, List, [], ◌∷◌, length, get_or, map, sym, refl, ap, ◌∙◌, subst, arith}
+use Rattle.std.proofs.Math.ListN.{get_or-map}
+use Rattle.quantities.specs.Ranges.{most_titles}
+use Rattle.quantities.specs.declared.isin.Isin.{Isin}
+use Rattle.account.specs.declared.by_isin.ByIsin.{ByIsin}
+use Rattle.account.specs.declared.line.Line.{Line}
+use Rattle.account.specs.declared.row.Scope.{Scope}
+use Rattle.account.specs.Lines.{kind, same_kind, same_isin, if_bought, if_sold, sum_of}
+use Rattle.account.specs.Rows.{block_of}
+use Rattle.account.specs.Settings.{Setting}
+use Rattle.valuation.specs.declared.isin_sums.LineSums.{LineSums}
+use Rattle.valuation.specs.IsinSums.{SumsOf, SumsWithin, WithLine}
+use Rattle.valuation.specs.Scopes.{takes_part, taken, picked, lines_in}
+use Rattle.valuation.specs.Sums.{cash_of}
+use Rattle.valuation.proofs.Picks.{no_line, line_at, Summed, summed_more, summed_all, Bounded, bounded_more, bounded_all, bounded_most, bought_most, sold_most}
+
+-- the line of a record, which is that among the lines
+abbrev pub record_at : List ByIsin → ℕ → Line
+record_at xs k = (get_or xs k (record { line = no_line })).line
+
+pub line_is : (xs : List ByIsin) (k : ℕ) → line_at (map (λ x. x.line) xs) k ≡ record_at xs k
+line_is xs k = get_or-map (λ x. x.line) xs k (record { line = no_line })
+
+-- a number of each line that passes p, at most b each, added up to n before the line k
+pub record Adding (b : ℕ) (f : Line → ℕ) (p : Line → Bool) (ls : List Line) (k n : ℕ) : Type 0 where
+  pub sum : Summed f p ls k n
+  pub high : Bounded b p ls k n
+
+adding_more : {b : ℕ} {f : Line → ℕ} {p : Line → Bool} {ls : List Line} {k n m : ℕ} (t : Bool) → k < length ls → t ≡ p (line_at ls k) → f (line_at ls k) ≤ b → m ≡ n + cond t (f (line_at ls k)) 0 → Adding b f p ls k n → Adding b f p ls (k + 1) m
+adding_more {b} {f} {p} {ls} {k} {n} {m} t h e d q a = record { sum = summed_more t h e q a.sum; high = bounded_more t h e (within t q) a.high }
+  where
+    within : (u : Bool) → m ≡ n + cond u (f (line_at ls k)) 0 → m ≤ n + cond u b 0
+    within true r = omega arith
+    within false r = omega arith
+
+ones : (ls : List Line) → sum_of (λ (l : Line). 1) ls ≡ length ls
+ones [] = refl
+ones (l ∷ ls) = omega (arith, ones ls)
+
+-- the sums for a row, before the line k
+pub record SumsBefore (s : Setting) (i : Isin) (scope : Scope) (ls : List Line) (k : ℕ) (p : LineSums) : Type 0 where
+  pub lines : Adding 1 (λ l. 1) (picked s i scope) ls k p.lines
+  pub bought : Adding 2000000000000 (λ l. if_bought l.side l.titles) (picked s i scope) ls k p.titles.bought
+  pub sold : Adding 2000000000000 (λ l. if_sold l.side l.titles) (picked s i scope) ls k p.titles.sold
+  pub charged : Adding 2000000000000 (λ l. if_bought l.side (cash_of s l)) (picked s i scope) ls k p.cash.bought
+  pub credited : Adding 2000000000000 (λ l. if_sold l.side (cash_of s l)) (picked s i scope) ls k p.cash.sold
+
+module _ (s : Setting) (i : Isin) (scope : Scope) (ls : List Line) where
+  taken_is : (l : Line) → same_isin l.isin i ≡ true → taken s scope l ≡ picked s i scope l
+  taken_is l e = ap (λ b. (b && same_kind (kind l.block) (block_of scope)) && takes_part s scope l) (sym e)
+
+  before_more : {k cash : ℕ} {p q : LineSums} → k < length ls → same_isin (line_at ls k).isin i ≡ true → (line_at ls k).titles ≤ most_titles → cash ≡ cash_of s (line_at ls k) → cash ≤ 2000000000000 →
+      WithLine (taken s scope (line_at ls k)) (line_at ls k) cash p q → SumsBefore s i scope ls k p → SumsBefore s i scope ls (k + 1) q
+  before_more {k} {cash} {p} h e few c m w a =
+      let l = line_at ls k in
+      let d : l.titles ≤ 2000000000000 = omega arith in
+      let t = taken s scope l in
+      let u = taken_is l e in
+      let n : cash_of s l ≤ 2000000000000 = omega arith in
+      record {
+        lines = adding_more t h u (omega arith) w.lines a.lines;
+        bought = adding_more t h u (bought_most l.side l.titles _ d) w.bought a.bought;
+        sold = adding_more t h u (sold_most l.side l.titles _ d) w.sold a.sold;
+        charged = adding_more t h u (bought_most l.side (cash_of s l) _ n) (w.charged ∙ ap (λ x. p.cash.bought + cond t (if_bought l.side x) 0) c) a.charged;
+        credited = adding_more t h u (sold_most l.side (cash_of s l) _ n) (w.credited ∙ ap (λ x. p.cash.sold + cond t (if_sold l.side x) 0) c) a.credited;
+      }
+
+  -- the same, where the line is one by another name
+  pub before_next : {k cash : ℕ} {l : Line} {p q : LineSums} → line_at ls k ≡ l → k < length ls → same_isin (line_at ls k).isin i ≡ true → (line_at ls k).titles ≤ most_titles → cash ≡ cash_of s l → cash ≤ 2000000000000 →
+      WithLine (taken s scope l) l cash p q → SumsBefore s i scope ls k p → SumsBefore s i scope ls (k + 1) q
+  before_next {k} {cash} {l} {p} {q} d h e few c m w a =
+      before_more h e few (subst (λ x. cash ≡ cash_of s x) (sym d) c) m (subst (λ x. WithLine (taken s scope x) x cash p q) (sym d) w) a
+
+  pub before_room : {k : ℕ} {p : LineSums} → length ls ≤ 65535 → SumsBefore s i scope ls k p → SumsWithin 65535 p
+  before_room few a =
+      record {
+        lines = omega (arith, bounded_most a.lines.high);
+        titles = record { bought = omega (arith, bounded_most a.bought.high); sold = omega (arith, bounded_most a.sold.high) };
+        cash = record { bought = omega (arith, bounded_most a.charged.high); sold = omega (arith, bounded_most a.credited.high) };
+      }
+
+  pub before_end : {k : ℕ} {p : LineSums} → length ls ≤ k → SumsBefore s i scope ls k p → SumsOf s i scope ls p
+  before_end h a =
+      record {
+        lines = summed_all h a.lines.sum ∙ ones (lines_in s i scope ls);
+        titles = record { bought = summed_all h a.bought.sum; sold = summed_all h a.sold.sum };
+        cash = record { bought = summed_all h a.charged.sum; sold = summed_all h a.credited.sum };
+        within = record { bought = bounded_all a.charged.high; sold = bounded_all a.credited.high };
+      }
