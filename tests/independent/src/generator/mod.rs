@@ -237,6 +237,10 @@ pub fn paces() -> Vec<(&'static str, Vec<u8>)> {
     let mut limits = sheets::spell(&plan::typical(&mut random, 1_024, 256, 64));
     fill(&mut limits);
     let many = sheets::spell(&plan::all_differing(&mut random));
+    let mut each = plan::each_its_isin(&mut random);
+    let isins = sheets::spell(&each);
+    random.shuffle(&mut each.lines);
+    let shuffled = sheets::spell(&each);
     vec![
         ("typical: 60 lines, 20 ISINs", sheets::render(&typical)),
         (
@@ -246,6 +250,14 @@ pub fn paces() -> Vec<(&'static str, Vec<u8>)> {
         (
             "differing: 1,024 lines in 256 ISINs, four blocks each",
             sheets::render(&many),
+        ),
+        (
+            "ISINs: 1,024 lines in 1,024 ISINs, 256 of them priced",
+            sheets::render(&isins),
+        ),
+        (
+            "shuffled: the same, its lines in no order of their references",
+            sheets::render(&shuffled),
         ),
     ]
 }

@@ -732,6 +732,28 @@ pub fn typical(random: &mut Random, lines: usize, isins: usize, points: usize) -
     }
 }
 
+/// As many lines as a run may have, each of an ISIN of its own: as many as there may be prices are
+/// trades, the others cash only, which needs no price.
+pub fn each_its_isin(random: &mut Random) -> Plan {
+    let mut plan = typical(random, 1_024, 256, 64);
+    let mut taken = Isins::new(random);
+    taken.taken.extend(plan.prices.iter().map(|price| price.isin));
+    for (place, line) in plan.lines.iter_mut().enumerate() {
+        line.titles = 0;
+        line.cash = random.between(0, 5_000_000);
+        if place < 256 {
+            line.block = b'T';
+            line.titles = 1 + place as i64;
+            line.date = 9_000 + place as i64;
+        } else {
+            line.isin = taken.fresh(random);
+            line.block = b'C';
+            line.date = 9_000;
+        }
+    }
+    plan
+}
+
 /// As many lines as a run may have, all different, four in each of as many ISINs as may have a
 /// price: one of each block, so that the statement has as many rows as it may have.
 pub fn all_differing(random: &mut Random) -> Plan {
