@@ -12,8 +12,8 @@ use Rattle.account.specs.declared.line.Line.{Line}
 use Rattle.account.specs.declared.by_isin.ByIsin.{ByIsin}
 use Rattle.account.specs.Calls.{line_rank}
 use Rattle.account.specs.ByIsin.{isin_line_rank, by_isin, lines_in, Small}
-use Rattle.account.proofs.ByIsin.{by_isin_long, entered, withdrawn, present}
-use Rattle.account.proofs.InRecords.{map_inserted, map_without, map_found}
+use Rattle.account.proofs.ByIsin.{by_isin_long, absent, entered, withdrawn, present}
+use Rattle.account.proofs.InRecords.{map_has, map_inserted, map_without, map_found}
 
 -- ---- a record whose key is new, where it is put in
 module _ {X : Type 0} (f : X → ℕ) (room : ℕ) (r : X) (xs after : List X) (answer : Result (Unit {0}) Refusal) (new : has_rank f (f r) xs ≡ false) (i : Inserts f room r xs answer after) where
@@ -38,6 +38,9 @@ module _ (ls : List Line) (xs : List ByIsin) (small : Small ls) (same : lines_in
   same_long = sym (length-map xs (λ x. x.line)) ∙ ap length same ∙ by_isin_long ls
 
   -- ---- a line is entered
+  pub absent_by_isin : (l : Line) → l.reference < 2 ^ 32 → has_rank line_rank l.reference ls ≡ false → has_rank (λ x. isin_line_rank x.line) (isin_line_rank l) xs ≡ false
+  absent_by_isin l b new = map_has isin_line_rank (λ x. x.line) (isin_line_rank l) xs ∙ ap (has_rank isin_line_rank (isin_line_rank l)) same ∙ absent l ls b small new
+
   module _ (room room2 : ℕ) (l : Line) (ls2 : List Line) (xs2 : List ByIsin) (answer2 : Result (Unit {0}) Refusal) (roomy : room2 ≡ room)
       (new : has_rank line_rank l.reference ls ≡ false) (new2 : has_rank (λ x. isin_line_rank x.line) (isin_line_rank l) xs ≡ false)
       (i : Inserts line_rank room l ls (Ok tt) ls2) (j : Inserts (λ x. isin_line_rank x.line) room2 (record { line = l }) xs answer2 xs2) where

@@ -1,5 +1,4 @@
 pub mod Runs
-pub mod Places
 pub mod Entering
 pub mod Withdrawing
 pub mod Taken

@@ -1,9 +1,10 @@
 -- Lines by ISIN stand together on both sides of a place that one more would have.
-use Rattle.std.proofs.Common.{◌≡◌, ℕ, ◌+◌, ◌*◌, ◌^◌, ◌<◌, ◌≤◌, Bool, true, false, ltb, List, [], ◌∷◌, take, drop, sym, ap, ◌∙◌, subst, ⊎_elim, arith}
+use Rattle.std.proofs.Common.{◌≡◌, ℕ, ◌+◌, ◌*◌, ◌^◌, ◌<◌, ◌≤◌, Bool, true, false, ◌&&◌, ltb, List, [], ◌∷◌, take, drop, sym, ap, ◌∙◌, subst, ⊎_elim, arith}
 use Rattle.std.specs.List.{AllByRecursion as All}
 use Rattle.std.proofs.ByRecursion.{All-weaker}
-use Rattle.std.proofs.lemmas.Bool.{true≢false, cases_Bool, cond_both, ltb-true, ltb-false}
+use Rattle.std.proofs.lemmas.Bool.{true≢false, and_parts, cases_Bool, cond_both, ltb-true, ltb-false}
 use Rattle.quantities.specs.declared.isin.Isin.{Isin}
+use Rattle.quantities.specs.Isins.{is_isin}
 use Rattle.register.specs.Bytes.{Bytes}
 use Rattle.register.specs.Keys.{Ascends, below_rank, from_rank}
 use Rattle.register.specs.Search.{Parts}
@@ -11,10 +12,10 @@ use Rattle.market.specs.Records.{isin_rank}
 use Rattle.account.specs.declared.line.Line.{Line}
 use Rattle.account.specs.declared.by_isin.ByIsin.{ByIsin}
 use Rattle.account.specs.Lines.{same_isin, TwelveBytes}
-use Rattle.account.specs.Answers.{well_formed}
+use Rattle.account.specs.Answers.{well_formed, well_dated}
 use Rattle.account.specs.Taken.{each_taken}
 use Rattle.account.specs.ByIsin.{isin_line_rank, by_isin, lines_in, Small}
-use Rattle.account.proofs.Formed.{formed_bytes, taken_bytes}
+use Rattle.account.proofs.Formed.{formed_parts, formed_bytes, taken_bytes}
 use Rattle.account.proofs.Terms.{same_isin_decides}
 use Rattle.account.proofs.Ordered.{ranks_apart}
 use Rattle.account.proofs.Sorted.{Rises, rises}
@@ -41,6 +42,16 @@ line_weighs l h = (formed_small l h, formed_bytes l h)
 
 pub records_weigh : (today : ℕ) (ls : List Line) (xs : List ByIsin) → each_taken today ls ≡ true → lines_in xs ≡ by_isin ls → All (λ x. Weighs x.line) xs
 records_weigh today ls xs t e = each_in Weighs xs (subst (All Weighs) (sym e) (all_by_isin Weighs ls (taken_weighs today ls t)))
+
+-- each line that stands has an ISIN
+taken_isins : (today : ℕ) (ls : List Line) → each_taken today ls ≡ true → All (λ l. is_isin l.isin.bytes ≡ true) ls
+taken_isins today [] t = tt
+taken_isins today (l ∷ ls) t =
+    let p = and_parts (well_formed l && well_dated today l.block) (each_taken today ls) t in
+    ((formed_parts l (and_parts (well_formed l) _ p.0).0).isin, taken_isins today ls p.1)
+
+pub records_isins : (today : ℕ) (ls : List Line) (xs : List ByIsin) → each_taken today ls ≡ true → lines_in xs ≡ by_isin ls → All (λ x. is_isin x.line.isin.bytes ≡ true) xs
+records_isins today ls xs t e = each_in (λ l. is_isin l.isin.bytes ≡ true) xs (subst (All (λ l. is_isin l.isin.bytes ≡ true)) (sym e) (all_by_isin (λ l. is_isin l.isin.bytes ≡ true) ls (taken_isins today ls t)))
 
 -- a line whose rank is among those of an ISIN is of the ISIN
 between : (i : Isin) (l : Line) → Bytes 12 i.bytes → Weighs l → isin_rank i * 2 ^ 32 ≤ isin_line_rank l → isin_line_rank l < isin_rank i * 2 ^ 32 + 2 ^ 32 → same_isin l.isin i ≡ true

@@ -1,12 +1,13 @@
 //! The checks of a line that is to be entered.
-ghost use Rattle.std.specs.Prelude.{◌≡◌, ◌++◌, ◌^◌, ◌<◌, ◌≤◌, nat_le, sum_by, filter, reverse};
+ghost use Rattle.std.specs.Prelude.{◌≡◌, true, ◌++◌, ◌^◌, ◌<◌, ◌≤◌, nat_le, sum_by, filter, reverse};
 ghost use Rattle.std.specs.List.{take_while};
 ghost use Rattle.quantities.specs.Ranges.{most_titles};
 ghost use Rattle.account.specs.Lines.{kind as block_kind, same_kind, same_isin};
 ghost use Rattle.account.specs.ByIsin.{lines_in};
 ghost use Rattle.valuation.specs.Kinds.{kind_of};
 ghost use Rattle.account.specs.Answers.{has_titles, well_formed, well_dated, titles_of, titles_with};
-ghost use Rattle.book.specs.Checks.{Checks, Beside};
+ghost use Rattle.quantities.specs.Isins.{is_isin};
+ghost use Rattle.book.specs.Checks.{Checks, EachIsin, Beside};
 
 use account::by_isin::ByIsin;
 use account::line::{Block, Line};
@@ -25,12 +26,35 @@ fn titles_fit(block: Block, titles: u32) -> bool
     }
 }
 
-/// Refuses a line of which a part is outside its form or range.
-pub fn check_form(line: &Line) -> Result<(), Refusal>
+// Whether the last of lines is of an ISIN, which then is one.
+pub fn is_last_of(lines: &[ByIsin], isin: Isin) -> bool
+    requires { EachIsin lines.now }
+    ensures { result ≡ true → is_isin isin.bytes ≡ true }
+{
+    match lines.last() {
+        Some(last) => last.line.isin == isin,
+        None => false,
+    }
+}
+
+// Whether the first of lines is of an ISIN, which then is one.
+pub fn is_first_of(lines: &[ByIsin], isin: Isin) -> bool
+    requires { EachIsin lines.now }
+    ensures { result ≡ true → is_isin isin.bytes ≡ true }
+{
+    match lines.first() {
+        Some(first) => first.line.isin == isin,
+        None => false,
+    }
+}
+
+/// Refuses a line of which a part is outside its form or range; an ISIN that stands already is known to be one.
+pub fn check_form(line: &Line, is_known: bool) -> Result<(), Refusal>
+    requires { is_known ≡ true → is_isin line.now.isin.bytes ≡ true }
     ensures { Checks 4 (well_formed line.now) result }
 {
     let fits = matches!(line.reference, 1..=u32::MAX)
-        && line.isin.is_valid()
+        && (is_known || line.isin.is_valid())
         && titles_fit(line.block, line.titles)
         && line.cash <= Cash::MOST;
     if fits { Ok(()) } else { Err(Refusal::Value) }

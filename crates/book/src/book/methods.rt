@@ -4,10 +4,12 @@ ghost use Rattle.account.specs.Calls.{line_rank, told_margin};
 ghost use Rattle.register.specs.Keys.{Ascends, has_rank};
 ghost use Rattle.valuation.specs.Statements.{States};
 ghost use Rattle.account.specs.Answers.{margin_answer, well_formed};
-ghost use Rattle.book.specs.Checks.{Placed, Admits};
+ghost use Rattle.register.specs.Search.{Parts};
+ghost use Rattle.account.specs.ByIsin.{isin_line_rank};
+ghost use Rattle.book.specs.Checks.{Admits};
 
 use super::{Book, Places};
-use crate::check::{check_date, check_form, check_titles};
+use crate::check::{check_date, check_form, check_titles, is_first_of, is_last_of};
 use account::by_isin::ByIsin;
 use account::call::{Answer, Call, LineRefusal, Margin, Reply};
 use account::line::Line;
@@ -49,32 +51,32 @@ impl<'m, 'p, 'l> Book<'m, 'p, 'l> {
         self.lines.records()
     }
 
-    // The places that a line would have, and none where its reference stands.
-    fn places_for(&self, line: &Line) -> Option<Places>
-        requires { well_formed line.now ≡ true }
-        ensures ascends { Ascends line_rank self.now.lines.records }
-        ensures places { MatchOption result (has_rank line_rank line.now.reference self.now.lines.records ≡ true) (λ places. Placed self.now.lines.records self.now.by_isin.records line.now places) }
+    // The place of a line by ISIN, or else the place that it would have.
+    fn place_by_isin(&self, line: &Line) -> usize
+        ensures parts { Parts (λ x. isin_line_rank x.line) (isin_line_rank line.now) self.now.by_isin.records result }
+        ensures within { result ≤ length self.now.by_isin.records }
     {
-        let by_reference = self.lines.place_of(line.reference).err()?;
-        let by_isin = self.by_isin.place_of(ByIsin { line: *line }.key()).err()?;
-        Some(Places {
-            by_reference,
-            by_isin,
-        })
+        let (Ok(place) | Err(place)) = self.by_isin.place_of(ByIsin { line: *line }.key());
+        place
     }
 
     // The checks of a line, in their order, and the places that it would have.
     fn admit(&self, line: &Line) -> Result<Places, Refusal>
-        ensures { Admits (today_of self.now) self.now.lines.records self.now.by_isin.records line.now result }
+        ensures { Admits (today_of self.now) self.now.lines.records line.now result }
     {
-        check_form(line)?;
-        let Some(places) = self.places_for(line) else {
+        let by_isin = self.place_by_isin(line);
+        let (before, after) = self.by_isin.records().split_at(by_isin);
+        let is_known = is_last_of(before, line.isin) || is_first_of(after, line.isin);
+        check_form(line, is_known)?;
+        let Err(by_reference) = self.lines.place_of(line.reference) else {
             return Err(Refusal::KeyPresent);
         };
         check_date(self.market.today(), line.block)?;
-        let (before, after) = self.by_isin.records().split_at(places.by_isin);
         check_titles(before, after, line)?;
-        Ok(places)
+        Ok(Places {
+            by_reference,
+            by_isin,
+        })
     }
 
     /// Enters a line: refused 4 for its form, 6 for its reference, 7 for its date, 8 for its titles, 9 for want of a place.
