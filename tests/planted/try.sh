@@ -32,4 +32,4 @@ for crate in "$@"; do
 done | cut -c1-150 | tee "$copy/all"
 echo
 cut -d' ' -f1 "$copy/all" | sort | uniq -c
-! grep -q '^PROVED' "$copy/all"
+! grep -qE '^(PROVED|bad)' "$copy/all"

@@ -2,13 +2,15 @@
 use Rattle.std.proofs.Common.{◌≡◌, ℕ, ◌+◌, Bool, true, false, cond, not, ◌&&◌, eqb, List, [], ◌∷◌, sym, refl, ◌∙◌, subst, subst₂, arith}
 use Rattle.std.proofs.lemmas.Bool.{ltb-true, eqb-true, eq-eqb, cond-true}
 use Rattle.account.specs.declared.line.Line.{Line}
-use Rattle.account.specs.Lines.{Kind, trade, failed, held, cash_only, kind, same_kind, sum_of}
+use Rattle.account.specs.Lines.{block_name, is_same_block, sum_of}
+use Rattle.account.specs.declared.block.BlockName.{BlockName}
+use Rattle.account.specs.declared.block.BlockName.TheVariants.{Trade as trade, Failed as failed, Held as held, CashOnly as cash_only}
 use Rattle.account.specs.Settings.{Setting, has_price, has_percentage}
 use Rattle.account.specs.Margin.{margin, rounded_amounts}
 use Rattle.account.specs.Exact.{exact_margin}
 use Rattle.account.specs.Calls.{Answer, accepted, refused, given}
 use Rattle.account.specs.Answers.{fault, answer_among}
-use Rattle.account.specs.Joint.{Reached, WithinCents, MarginHolds, JointLaw, CentsLaw, GivenLaw}
+use Rattle.account.specs.Joint.{EachTradeHasRate, WithinCents, MarginHolds, JointLaw, CentsLaw, GivenLaw}
 use Rattle.account.proofs.Terms.{joint_adds, adds_ℕ}
 use Rattle.account.proofs.Joint.{joint_bound}
 use Rattle.account.proofs.Cents.{cents_bound}
@@ -37,12 +39,12 @@ parts s ls m k e = same (margin s ls) (rounded_amounts ls) (sym e ∙ answered s
     same n j e = (cc, cc)
 
 -- a trade with no fault has a rate
-reached : (s : Setting) (ls : List Line) → faults s ls ≡ 0 → Reached s ls
+reached : (s : Setting) (ls : List Line) → faults s ls ≡ 0 → EachTradeHasRate s ls
 reached s [] h = tt
 reached s (l ∷ ls) h =
-    (λ e. ltb-true _ _ (go (kind l.block) (has_price s l.isin) (has_percentage s l.isin) _ (omega arith) e), reached s ls (omega arith))
+    (λ e. ltb-true _ _ (go (block_name l.block) (has_price s l.isin) (has_percentage s l.isin) _ (omega arith) e), reached s ls (omega arith))
   where
-    go : (k : Kind) (p q r : Bool) → ◌≡◌ {A = ℕ} (cond (same_kind k cash_only) 0 (cond (not p) 10 (cond (not q) 11 (cond (same_kind k trade && not r) 12 0)))) 0 → same_kind k trade ≡ true → r ≡ true
+    go : (k : BlockName) (p q r : Bool) → ◌≡◌ {A = ℕ} (cond (is_same_block k cash_only) 0 (cond (not p) 10 (cond (not q) 11 (cond (is_same_block k trade && not r) 12 0)))) 0 → is_same_block k trade ≡ true → r ≡ true
     go trade true true true h e = refl
     go trade true true false h e = absurd (omega arith)
     go trade true false r h e = absurd (omega arith)

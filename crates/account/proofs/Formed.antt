@@ -7,18 +7,20 @@ use Rattle.quantities.specs.Isins.{is_letter, is_digit, is_letter_or_digit, isin
 use Rattle.quantities.specs.Ranges.{most_cash, most_titles, highest_reference}
 use Rattle.register.specs.Bytes.{Bytes}
 use Rattle.account.specs.declared.line.Line.{Line}
-use Rattle.account.specs.Lines.{Kind, trade, failed, held, cash_only, kind, TwelveBytes}
-use Rattle.account.specs.Answers.{has_titles, well_formed, well_dated}
-use Rattle.account.specs.Taken.{each_taken}
+use Rattle.account.specs.Lines.{block_name, TwelveBytes}
+use Rattle.account.specs.declared.block.BlockName.{BlockName}
+use Rattle.account.specs.declared.block.BlockName.TheVariants.{Trade as trade, Failed as failed, Held as held, CashOnly as cash_only}
+use Rattle.account.specs.Answers.{has_titles, is_well_formed, is_well_dated}
+use Rattle.account.specs.Valid.{all_valid}
 
 pub record Formed (l : Line) : Type 0 where
   pub isin : is_isin l.isin.bytes ≡ true
-  pub titles : has_titles (kind l.block) l.titles ≡ true
+  pub titles : has_titles (block_name l.block) l.titles ≡ true
   pub cash : l.cash ≤ most_cash
 
-pub formed_parts : (l : Line) → well_formed l ≡ true → Formed l
+pub formed_parts : (l : Line) → is_well_formed l ≡ true → Formed l
 formed_parts l h =
-    let p = go (leb 1 l.reference && leb l.reference highest_reference) (is_isin l.isin.bytes) (has_titles (kind l.block) l.titles) (leb l.cash most_cash) h in
+    let p = go (leb 1 l.reference && leb l.reference highest_reference) (is_isin l.isin.bytes) (has_titles (block_name l.block) l.titles) (leb l.cash most_cash) h in
     record { isin = p.0; titles = p.1; cash = leb-true l.cash most_cash p.2 }
   where
     go : (a b c d : Bool) → (a && (b && (c && d))) ≡ true → (b ≡ true) × (c ≡ true) × (d ≡ true)
@@ -27,10 +29,10 @@ formed_parts l h =
     go true false c d h = absurd (false≢true h)
     go false b c d h = absurd (false≢true h)
 
-pub formed_titles : (l : Line) → well_formed l ≡ true → l.titles ≤ most_titles
-formed_titles l f = go (kind l.block) (formed_parts l f).titles
+pub formed_titles : (l : Line) → is_well_formed l ≡ true → l.titles ≤ most_titles
+formed_titles l f = go (block_name l.block) (formed_parts l f).titles
   where
-    go : (k : Kind) → has_titles k l.titles ≡ true → l.titles ≤ most_titles
+    go : (k : BlockName) → has_titles k l.titles ≡ true → l.titles ≤ most_titles
     go trade h = leb-true l.titles most_titles (and_parts (leb 1 l.titles) (leb l.titles most_titles) h).1
     go failed h = leb-true l.titles most_titles (and_parts (leb 1 l.titles) (leb l.titles most_titles) h).1
     go held h = leb-true l.titles most_titles (and_parts (leb 1 l.titles) (leb l.titles most_titles) h).1
@@ -68,12 +70,12 @@ isin_bytes bs h =
           (cases_lt i 2);
     }
 
-pub formed_bytes : (l : Line) → well_formed l ≡ true → Bytes 12 l.isin.bytes
+pub formed_bytes : (l : Line) → is_well_formed l ≡ true → Bytes 12 l.isin.bytes
 formed_bytes l h = isin_bytes l.isin.bytes (formed_parts l h).isin
 
 -- ---- lines that a book has taken
-pub taken_bytes : (today : ℕ) (ls : List Line) → each_taken today ls ≡ true → TwelveBytes ls
+pub taken_bytes : (today : ℕ) (ls : List Line) → all_valid today ls ≡ true → TwelveBytes ls
 taken_bytes today [] t = tt
 taken_bytes today (l ∷ ls) t =
-    let p = and_parts (well_formed l && well_dated today l.block) (each_taken today ls) t in
-    (formed_bytes l (and_parts (well_formed l) (well_dated today l.block) p.0).0, taken_bytes today ls p.1)
+    let p = and_parts (is_well_formed l && is_well_dated today l.block) (all_valid today ls) t in
+    (formed_bytes l (and_parts (is_well_formed l) (is_well_dated today l.block) p.0).0, taken_bytes today ls p.1)

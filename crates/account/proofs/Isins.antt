@@ -5,7 +5,9 @@ use Rattle.quantities.specs.declared.isin.Isin.{Isin}
 use Rattle.register.specs.Keys.{inserted_by}
 use Rattle.market.specs.Records.{isin_rank}
 use Rattle.account.specs.declared.line.Line.{Line}
-use Rattle.account.specs.Lines.{Kind, trade, same_isin, is_trade, of, keep, sum_of, sum_ℤ, any, has_isin, with_isin, isins}
+use Rattle.account.specs.Lines.{same_isin, is_trade, is_in_block, keep, sum_of, sum_ℤ, any, has_isin, with_isin, isins}
+use Rattle.account.specs.declared.block.BlockName.{BlockName}
+use Rattle.account.specs.declared.block.BlockName.TheVariants.{Trade as trade}
 use Rattle.account.proofs.Sums.{one_if, sum_zero, sum_plus, sum_le, count, same_sum}
 use Rattle.account.proofs.Terms.{same_isin_decides}
 
@@ -50,10 +52,10 @@ isins_count x (l ∷ ls) =
     (λ e. omega (arith, ap one_if e, with_other x l.isin (isins ls) e, isins_count x ls))
     (cases_Bool (same_isin x l.isin))
 
-pub kept_none : (i : Isin) (k : Kind) (ls : List Line) → lines_of i ls ≡ 0 → keep (of i k) ls ≡ []
+pub kept_none : (i : Isin) (k : BlockName) (ls : List Line) → lines_of i ls ≡ 0 → keep (is_in_block i k) ls ≡ []
 kept_none i k [] h = refl
 kept_none i k (l ∷ ls) h =
-    cond_both (of i k l) (l ∷ keep (of i k) ls) (keep (of i k) ls) (λ ks. ks ≡ [])
+    cond_both (is_in_block i k l) (l ∷ keep (is_in_block i k) ls) (keep (is_in_block i k) ls) (λ ks. ks ≡ [])
     (λ e. let here : i ≡ l.isin = sym ((same_isin_decides l.isin i).0 (and_parts _ _ e).0) in
     absurd (omega (arith, ap one_if ((same_isin_decides i l.isin).1 here))))
     (λ e. kept_none i k ls (omega arith))
@@ -89,12 +91,12 @@ once_each f (l ∷ ls) all =
 abbrev pub trade_one : Line → ℕ
 trade_one l = cond (is_trade l) 1 0
 
-pub trades_bound : (ls all : List Line) → sum_of (λ i. sum_of trade_one (keep (of i trade) ls)) (isins all) ≤ length (keep is_trade ls)
+pub trades_bound : (ls all : List Line) → sum_of (λ i. sum_of trade_one (keep (is_in_block i trade) ls)) (isins all) ≤ length (keep is_trade ls)
 trades_bound ls all = omega (arith, sum_le _ _ (isins all) (λ i. kept i ls), once_each trade_one ls all, long ls)
   where
-    kept : (i : Isin) (ms : List Line) → sum_of trade_one (keep (of i trade) ms) ≤ sum_of (λ l. cond (same_isin l.isin i) (trade_one l) 0) ms
+    kept : (i : Isin) (ms : List Line) → sum_of trade_one (keep (is_in_block i trade) ms) ≤ sum_of (λ l. cond (same_isin l.isin i) (trade_one l) 0) ms
     kept i [] = omega arith
-    kept i (m ∷ ms) = omega (arith, go (same_isin m.isin i) (is_trade m) (keep (of i trade) ms), kept i ms)
+    kept i (m ∷ ms) = omega (arith, go (same_isin m.isin i) (is_trade m) (keep (is_in_block i trade) ms), kept i ms)
       where
         go : (a b : Bool) (ks : List Line) → sum_of trade_one (cond (a && b) (m ∷ ks) ks) ≤ cond a (trade_one m) 0 + sum_of trade_one ks
         go true true ks = omega arith

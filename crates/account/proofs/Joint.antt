@@ -6,15 +6,17 @@ use Rattle.std.proofs.lemmas.Int.{ints}
 use Rattle.std.proofs.lemmas.Bool.{cond_both}
 use Rattle.quantities.specs.declared.isin.Isin.{Isin}
 use Rattle.quantities.specs.Rounding.{round_up, round_down_signed}
-use Rattle.quantities.specs.Amounts.{initial_margin, value_upper, market_value}
+use Rattle.quantities.specs.Amounts.{initial_margin, value_numerator, market_value}
 use Rattle.netting.specs.Rules.{Netting, both_sides}
 use Rattle.account.specs.declared.line.Line.{Line}
-use Rattle.account.specs.Lines.{Kind, trade, failed, held, cash_only, same_isin, if_bought, if_sold, of, keep, sum_ℤ, isins}
+use Rattle.account.specs.Lines.{same_isin, if_bought, if_sold, is_in_block, keep, sum_ℤ, isins}
+use Rattle.account.specs.declared.block.BlockName.{BlockName}
+use Rattle.account.specs.declared.block.BlockName.TheVariants.{Trade as trade, Failed as failed, Held as held, CashOnly as cash_only}
 use Rattle.account.specs.Settings.{Setting, unit_price, percentage_of}
-use Rattle.account.specs.Charges.{bought, sold, cash_up, cash_down, value_of, not_today, after_next}
+use Rattle.account.specs.Charges.{titles_bought, titles_sold, cash_rounded_up, cash_rounded_down, market_value_of, is_not_today, is_after_next}
 use Rattle.account.specs.Rows.{statement_rows}
 use Rattle.account.specs.Margin.{not_below_zero, block_sum}
-use Rattle.account.specs.Joint.{Joint, JointBound}
+use Rattle.account.specs.Joint.{IsJointBook, JointBound}
 use Rattle.account.proofs.Sums.{sum_at_most}
 use Rattle.account.proofs.Terms.{Adds, joint_adds, adds_ℕ, adds_kept}
 use Rattle.account.proofs.Isins.{lines_of, kept_none, sum_over}
@@ -37,7 +39,7 @@ market_joint : (p b b₁ b₂ s s₁ s₂ : ℕ) → b ≡ b₁ + b₂ → s ≡
 market_joint p b b₁ b₂ s s₁ s₂ e f =
     let pb : p * b ≡ p * b₁ + p * b₂ = ap (λ k. p * k) e ∙ mul-add p b₁ b₂ in
     let ps : p * s ≡ p * s₁ + p * s₂ = ap (λ k. p * k) f ∙ mul-add p s₁ s₂ in
-    go (value_upper p b s) (value_upper p b₁ s₁) (value_upper p b₂ s₂) (omega (arith, ints, value_is p b s, value_is p b₁ s₁, value_is p b₂ s₂))
+    go (value_numerator p b s) (value_numerator p b₁ s₁) (value_numerator p b₂ s₂) (omega (arith, ints, value_is p b s, value_is p b₁ s₁, value_is p b₂ s₂))
   where
     go : (z z₁ z₂ : ℤ) → z ≡ z₁ +ℤ z₂ → (round_down_signed z₁ 10 +ℤ round_down_signed z₂ 10) ≤ℤ round_down_signed z 10
     go z z₁ z₂ e = omega (arith, ints, floor_is z, floor_is z₁, floor_is z₂)
@@ -70,37 +72,37 @@ same_joint p q r h = omega (arith, ints)
 -- ---- a charge
 charge_joint : {a b c : List Line} (s : Setting) (rule : ℕ → ℕ → ℕ) → ((b s c t : ℕ) → rule (b + c) (s + t) ≤ rule b s + rule c t) → (i : Isin) → Adds a b c → lines_charge s rule i c ≤ℤ (lines_charge s rule i a +ℤ lines_charge s rule i b)
 charge_joint {a} {b} {c} s rule together i add =
-    let bs : bought c ≡ bought a + bought b = adds_ℕ add (λ l. if_bought l.side l.titles) (λ l. refl) in
-    let ss : sold c ≡ sold a + sold b = adds_ℕ add (λ l. if_sold l.side l.titles) (λ l. refl) in
-    let q : rule (bought c) (sold c) ≤ rule (bought a) (sold a) + rule (bought b) (sold b) = subst₂ (λ x y. rule x y ≤ rule (bought a) (sold a) + rule (bought b) (sold b)) (sym bs) (sym ss) (together (bought a) (sold a) (bought b) (sold b)) in
-    less_joint _ _ _ _ _ _ _ _ _ (value_of s i c) (value_of s i a) (value_of s i b)
+    let bs : titles_bought c ≡ titles_bought a + titles_bought b = adds_ℕ add (λ l. if_bought l.side l.titles) (λ l. refl) in
+    let ss : titles_sold c ≡ titles_sold a + titles_sold b = adds_ℕ add (λ l. if_sold l.side l.titles) (λ l. refl) in
+    let q : rule (titles_bought c) (titles_sold c) ≤ rule (titles_bought a) (titles_sold a) + rule (titles_bought b) (titles_sold b) = subst₂ (λ x y. rule x y ≤ rule (titles_bought a) (titles_sold a) + rule (titles_bought b) (titles_sold b)) (sym bs) (sym ss) (together (titles_bought a) (titles_sold a) (titles_bought b) (titles_sold b)) in
+    less_joint _ _ _ _ _ _ _ _ _ (market_value_of s i c) (market_value_of s i a) (market_value_of s i b)
     (initial_joint _ _ _ (unit_price s i) (percentage_of s i) q) (market_joint (unit_price s i) _ _ _ _ _ _ bs ss)
-    (adds_ℕ add (λ l. if_bought l.side (cash_up s l)) (λ l. refl)) (adds_ℕ add (λ l. if_sold l.side (cash_down s l)) (λ l. refl))
+    (adds_ℕ add (λ l. if_bought l.side (cash_rounded_up s l)) (λ l. refl)) (adds_ℕ add (λ l. if_sold l.side (cash_rounded_down s l)) (λ l. refl))
 
-module _ (s : Setting) (a b c : List Line) (net : Netting s.charged) (j : Joint a b c) where
+module _ (s : Setting) (a b c : List Line) (net : Netting s.charged) (j : IsJointBook a b c) where
   adds : Adds a b c
   adds = joint_adds a b c j
 
-  adds_of : (i : Isin) (k : Kind) → Adds (keep (of i k) a) (keep (of i k) b) (keep (of i k) c)
-  adds_of i k = adds_kept (of i k) (λ l. refl) adds
+  adds_of : (i : Isin) (k : BlockName) → Adds (keep (is_in_block i k) a) (keep (is_in_block i k) b) (keep (is_in_block i k) c)
+  adds_of i k = adds_kept (is_in_block i k) (λ l. refl) adds
 
   more : (x : Isin) → lines_of x c ≡ lines_of x a + lines_of x b
   more x = adds_ℕ adds (λ l. cond (same_isin x l.isin) 1 0) (λ l. refl)
 
-  largest_joint : (i : Isin) → largest s i (keep (of i trade) c) ≤ℤ (largest s i (keep (of i trade) a) +ℤ largest s i (keep (of i trade) b))
+  largest_joint : (i : Isin) → largest s i (keep (is_in_block i trade) c) ≤ℤ (largest s i (keep (is_in_block i trade) a) +ℤ largest s i (keep (is_in_block i trade) b))
   largest_joint i =
       let F : List Line → ℤ = lines_charge s s.charged i in
-      let one : List Line → ℤ = λ ls. F (keep (of i trade) ls) in
-      let two : List Line → ℤ = λ ls. F (keep (not_today s) (keep (of i trade) ls)) in
-      let three : List Line → ℤ = λ ls. F (keep (after_next s) (keep (of i trade) ls)) in
+      let one : List Line → ℤ = λ ls. F (keep (is_in_block i trade) ls) in
+      let two : List Line → ℤ = λ ls. F (keep (is_not_today s) (keep (is_in_block i trade) ls)) in
+      let three : List Line → ℤ = λ ls. F (keep (is_after_next s) (keep (is_in_block i trade) ls)) in
       larger_joint a b c (λ ls. larger (one ls) (two ls)) three
       (larger_joint a b c one two (charge_joint s s.charged net.together i (adds_of i trade))
-      (charge_joint s s.charged net.together i (adds_kept (not_today s) (λ l. refl) (adds_of i trade))))
-      (charge_joint s s.charged net.together i (adds_kept (after_next s) (λ l. refl) (adds_of i trade)))
+      (charge_joint s s.charged net.together i (adds_kept (is_not_today s) (λ l. refl) (adds_of i trade))))
+      (charge_joint s s.charged net.together i (adds_kept (is_after_next s) (λ l. refl) (adds_of i trade)))
 
-  isin_joint : (k : Kind) (i : Isin) → block_charge s c k i ≤ℤ (block_charge s a k i +ℤ block_charge s b k i)
+  isin_joint : (k : BlockName) (i : Isin) → block_charge s c k i ≤ℤ (block_charge s a k i +ℤ block_charge s b k i)
   isin_joint trade i =
-      same_joint (worst_charge s i (keep (of i trade) c)) (worst_charge s i (keep (of i trade) a)) (worst_charge s i (keep (of i trade) b)) (largest_joint i)
+      same_joint (worst_charge s i (keep (is_in_block i trade) c)) (worst_charge s i (keep (is_in_block i trade) a)) (worst_charge s i (keep (is_in_block i trade) b)) (largest_joint i)
   isin_joint failed i = charge_joint s both_sides (λ x y z w. omega arith) i (adds_of i failed)
   isin_joint held i = charge_joint s both_sides (λ x y z w. omega arith) i (adds_of i held)
   isin_joint cash_only i =
@@ -108,10 +110,10 @@ module _ (s : Setting) (a b c : List Line) (net : Netting s.charged) (j : Joint 
       minus_joint _ _ _ _ _ _ (add (λ l. if_bought l.side l.cash) (λ l. refl)) (add (λ l. if_sold l.side l.cash) (λ l. refl))
 
   -- the joint book has the ISINs of both, and an ISIN without lines is charged nothing
-  over_more : (ls : List Line) (k : Kind) → ((x : Isin) → lines_of x ls ≤ lines_of x c) → sum_ℤ (block_charge s ls k) (isins c) ≡ sum_ℤ (block_charge s ls k) (isins ls)
+  over_more : (ls : List Line) (k : BlockName) → ((x : Isin) → lines_of x ls ≤ lines_of x c) → sum_ℤ (block_charge s ls k) (isins c) ≡ sum_ℤ (block_charge s ls k) (isins ls)
   over_more ls k le = sum_over (block_charge s ls k) ls c (λ i h. charge_none s net ls k i (kept_none i k ls h)) le
 
-  block_joint : (k : Kind) → block_sum k (statement_rows s c) ≤ block_sum k (statement_rows s a) + block_sum k (statement_rows s b)
+  block_joint : (k : BlockName) → block_sum k (statement_rows s c) ≤ block_sum k (statement_rows s a) + block_sum k (statement_rows s b)
   block_joint k =
       let h = not_below_joint (sum_ℤ (block_charge s c k) (isins c)) (sum_ℤ (block_charge s a k) (isins a)) (sum_ℤ (block_charge s b k) (isins b))
       (subst₂ (λ x y. sum_ℤ (block_charge s c k) (isins c) ≤ℤ (x +ℤ y)) (over_more a k (λ x. omega (arith, more x))) (over_more b k (λ x. omega (arith, more x)))

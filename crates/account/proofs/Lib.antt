@@ -1,3 +1,4 @@
+mod ByCases
 pub mod Sums
 pub mod Terms
 pub mod Isins

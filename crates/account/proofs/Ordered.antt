@@ -3,7 +3,7 @@ use Rattle.std.proofs.Common.{◌≡◌, ℕ, zero, suc, ◌<◌, Bool, true, fa
 use native.Mathlib.Numerals.{unary_clauses}
 use Rattle.std.proofs.lemmas.Bool.{cases_order, lt-ltb, le-ltb, eq-eqb, ltb-true, ltb-false, cond_both, or_parts, both_ways}
 use Rattle.quantities.specs.declared.isin.Isin.{Isin}
-use Rattle.register.specs.Bytes.{Bytes, before}
+use Rattle.register.specs.Bytes.{Bytes, is_before}
 use Rattle.register.specs.Keys.{Ascends, inserted_by}
 use Rattle.register.proofs.Bytes.{byte_order}
 use Rattle.market.specs.Records.{isin_rank}
@@ -14,7 +14,7 @@ use Rattle.account.proofs.Terms.{same_isin_decides}
 use Rattle.account.proofs.Isins.{any_count, isins_count}
 
 -- ---- ranks tell ISINs apart
-before_same : (xs ys : List ℕ) → length xs ≡ length ys → before xs ys ≡ false → before ys xs ≡ false → xs ≡ ys
+before_same : (xs ys : List ℕ) → length xs ≡ length ys → is_before xs ys ≡ false → is_before ys xs ≡ false → xs ≡ ys
 before_same [] [] e h k = refl
 before_same [] (y ∷ ys) e h k = absurd (omega arith)
 before_same (x ∷ xs) [] e h k = absurd (omega arith)
@@ -31,8 +31,8 @@ before_same (x ∷ xs) (y ∷ ys) e h k =
 
 pub ranks_apart : (i j : Isin) → Bytes 12 i.bytes → Bytes 12 j.bytes → same_isin i j ≡ false → isin_rank i ≡ isin_rank j → ⊥
 ranks_apart i j h k d e =
-    let a : before i.bytes j.bytes ≡ false = sym (byte_order 12 i.bytes j.bytes h k) ∙ le-ltb _ _ (omega arith) in
-    let b : before j.bytes i.bytes ≡ false = sym (byte_order 12 j.bytes i.bytes k h) ∙ le-ltb _ _ (omega arith) in
+    let a : is_before i.bytes j.bytes ≡ false = sym (byte_order 12 i.bytes j.bytes h k) ∙ le-ltb _ _ (omega arith) in
+    let b : is_before j.bytes i.bytes ≡ false = sym (byte_order 12 j.bytes i.bytes k h) ∙ le-ltb _ _ (omega arith) in
     let same = before_same i.bytes j.bytes (h.many ∙ sym k.many) a b in
     both_ways (same_isin i j) d ((same_isin_decides i j).1 (ap (λ bs. record { bytes = bs }) same))
 

@@ -6,12 +6,14 @@ use Rattle.register.specs.Bytes.{Bytes}
 use Rattle.register.specs.Keys.{Ascends, inserted_by}
 use Rattle.market.specs.Records.{isin_rank}
 use Rattle.account.specs.declared.line.Line.{Line}
-use Rattle.account.specs.Lines.{Kind, trade, failed, held, cash_only, kind, same_kind, same_isin, is_trade, of, keep, sum_of, has_isin, with_isin, isins, TwelveBytes}
+use Rattle.account.specs.Lines.{block_name, is_same_block, same_isin, is_trade, is_in_block, keep, sum_of, has_isin, with_isin, isins, TwelveBytes}
+use Rattle.account.specs.declared.block.BlockName.{BlockName}
+use Rattle.account.specs.declared.block.BlockName.TheVariants.{Trade as trade, Failed as failed, Held as held, CashOnly as cash_only}
 use Rattle.account.specs.Settings.{Setting}
-use Rattle.account.specs.Rows.{if_any, block_row, block_rows, rows_over, statement_rows}
-use Rattle.account.specs.Margin.{total, margin, two_if_any, rounded_at, rounded_amounts}
+use Rattle.account.specs.Rows.{if_any, block_row, block_rows, rows_of_isins, statement_rows}
+use Rattle.account.specs.Margin.{total, margin, two_if_any, rounded_amounts_at, rounded_amounts}
 use Rattle.account.specs.Calls.{line_rank}
-use Rattle.account.specs.ByIsin.{isin_line_rank, by_isin}
+use Rattle.account.specs.ByIsin.{isin_line_rank, lines_by_isin}
 use Rattle.account.proofs.Terms.{same_isin_decides}
 use Rattle.account.proofs.Ordered.{ranks_apart}
 use Rattle.account.proofs.Sorted.{swapped}
@@ -25,10 +27,10 @@ keep_both p q (l ∷ ls) = ⊎_elim
     (λ (e : p l ≡ false). rw e (keep_both p q ls))
     (cases_Bool (p l))
 
-pub of_kept : (i : Isin) (k : Kind) (ls : List Line) → Ascends line_rank ls → keep (of i k) (by_isin ls) ≡ keep (of i k) ls
+pub of_kept : (i : Isin) (k : BlockName) (ls : List Line) → Ascends line_rank ls → keep (is_in_block i k) (lines_by_isin ls) ≡ keep (is_in_block i k) ls
 of_kept i k ls up =
-    let both = keep_both (λ l. same_isin l.isin i) (λ l. same_kind (kind l.block) k) in
-    both (by_isin ls) ∙ ap (keep (of i k)) (same_isin_kept i ls up) ∙ sym (both ls)
+    let both = keep_both (λ l. same_isin l.isin i) (λ l. is_same_block (block_name l.block) k) in
+    both (lines_by_isin ls) ∙ ap (keep (is_in_block i k)) (same_isin_kept i ls up) ∙ sym (both ls)
 
 -- ---- the ISINs
 has_inserted : (i j : Isin) (js : List Isin) → has_isin i (inserted_by isin_rank j js) ≡ (same_isin i j || has_isin i js)
@@ -76,42 +78,42 @@ isins_inserted l (x ∷ xs) a b = ⊎_elim
     (λ (q : ltb (isin_line_rank l) (isin_line_rank x) ≡ false). rw q (ap (with_isin x.isin) (isins_inserted l xs a b.1) ∙ with_swapped x.isin l.isin (isins xs) b.0 a))
     (cases_Bool (ltb (isin_line_rank l) (isin_line_rank x)))
 
-pub twelve_by_isin : (ls : List Line) → TwelveBytes ls → TwelveBytes (by_isin ls)
+pub twelve_by_isin : (ls : List Line) → TwelveBytes ls → TwelveBytes (lines_by_isin ls)
 twelve_by_isin [] b = tt
-twelve_by_isin (l ∷ ls) b = inserted l (by_isin ls) b.0 (twelve_by_isin ls b.1)
+twelve_by_isin (l ∷ ls) b = inserted l (lines_by_isin ls) b.0 (twelve_by_isin ls b.1)
   where
     inserted : (x : Line) (xs : List Line) → Bytes 12 x.isin.bytes → TwelveBytes xs → TwelveBytes (inserted_by isin_line_rank x xs)
     inserted x [] a c = (a, tt)
     inserted x (y ∷ ys) a c = cond_both (ltb (isin_line_rank x) (isin_line_rank y)) (x ∷ (y ∷ ys)) (y ∷ inserted_by isin_line_rank x ys) TwelveBytes (λ q. (a, c)) (λ q. (c.0, inserted x ys a c.1))
 
-pub isins_same : (ls : List Line) → TwelveBytes ls → isins (by_isin ls) ≡ isins ls
+pub isins_same : (ls : List Line) → TwelveBytes ls → isins (lines_by_isin ls) ≡ isins ls
 isins_same [] b = refl
-isins_same (l ∷ ls) b = isins_inserted l (by_isin ls) b.0 (twelve_by_isin ls b.1) ∙ ap (with_isin l.isin) (isins_same ls b.1)
+isins_same (l ∷ ls) b = isins_inserted l (lines_by_isin ls) b.0 (twelve_by_isin ls b.1) ∙ ap (with_isin l.isin) (isins_same ls b.1)
 
 -- ---- the rows, the margin and its count
 module _ (ls : List Line) (up : Ascends line_rank ls) (twelve : TwelveBytes ls) where
-  rows_within : (s : Setting) (is : List Isin) → rows_over s (by_isin ls) is ≡ rows_over s ls is
+  rows_within : (s : Setting) (is : List Isin) → rows_of_isins s (lines_by_isin ls) is ≡ rows_of_isins s ls is
   rows_within s [] = refl
   rows_within s (i ∷ is) = ap₂ ◌++◌ (ap₂ ◌++◌ (block trade) (ap₂ ◌++◌ (block failed) (ap₂ ◌++◌ (block held) (block cash_only)))) (rows_within s is)
     where
-      block : (k : Kind) → block_rows s (by_isin ls) i k ≡ block_rows s ls i k
+      block : (k : BlockName) → block_rows s (lines_by_isin ls) i k ≡ block_rows s ls i k
       block k = ap (λ ks. if_any ks (block_row s i k ks)) (of_kept i k ls up)
 
-  pub rows_same : (s : Setting) → statement_rows s (by_isin ls) ≡ statement_rows s ls
-  rows_same s = rows_within s (isins (by_isin ls)) ∙ ap (rows_over s ls) (isins_same ls twelve)
+  pub rows_same : (s : Setting) → statement_rows s (lines_by_isin ls) ≡ statement_rows s ls
+  rows_same s = rows_within s (isins (lines_by_isin ls)) ∙ ap (rows_of_isins s ls) (isins_same ls twelve)
 
-  pub margin_same : (s : Setting) → margin s (by_isin ls) ≡ margin s ls
+  pub margin_same : (s : Setting) → margin s (lines_by_isin ls) ≡ margin s ls
   margin_same s = ap total (rows_same s)
 
-  rounded_within : (is : List Isin) → sum_of (rounded_at (by_isin ls)) is ≡ sum_of (rounded_at ls) is
+  rounded_within : (is : List Isin) → sum_of (rounded_amounts_at (lines_by_isin ls)) is ≡ sum_of (rounded_amounts_at ls) is
   rounded_within [] = refl
   rounded_within (i ∷ is) = ap₂ ◌+◌ (ap₂ ◌+◌ (two trade) (ap₂ ◌+◌ (two failed) (two held))) (rounded_within is)
     where
-      two : (k : Kind) → two_if_any (keep (of i k) (by_isin ls)) ≡ two_if_any (keep (of i k) ls)
+      two : (k : BlockName) → two_if_any (keep (is_in_block i k) (lines_by_isin ls)) ≡ two_if_any (keep (is_in_block i k) ls)
       two k = ap two_if_any (of_kept i k ls up)
 
-  pub rounded_same : rounded_amounts (by_isin ls) ≡ rounded_amounts ls
-  rounded_same = ap₂ ◌+◌ (rounded_within (isins (by_isin ls)) ∙ ap (sum_of (rounded_at ls)) (isins_same ls twelve)) (count_same is_trade ls)
+  pub rounded_same : rounded_amounts (lines_by_isin ls) ≡ rounded_amounts ls
+  rounded_same = ap₂ ◌+◌ (rounded_within (isins (lines_by_isin ls)) ∙ ap (sum_of (rounded_amounts_at ls)) (isins_same ls twelve)) (count_same is_trade ls)
     where
       count_inserted : (p : Line → Bool) (x : Line) (xs : List Line) → length (keep p (inserted_by isin_line_rank x xs)) ≡ length (keep p (x ∷ xs))
       count_inserted p x [] = refl
@@ -126,9 +128,9 @@ module _ (ls : List Line) (up : Ascends line_rank ls) (twelve : TwelveBytes ls) 
           go false true ks ms e = ap suc e
           go false false ks ms e = e
 
-      count_same : (p : Line → Bool) (ms : List Line) → length (keep p (by_isin ms)) ≡ length (keep p ms)
+      count_same : (p : Line → Bool) (ms : List Line) → length (keep p (lines_by_isin ms)) ≡ length (keep p ms)
       count_same p [] = refl
-      count_same p (m ∷ ms) = count_inserted p m (by_isin ms) ∙ one_more (p m) (keep p (by_isin ms)) (keep p ms) (count_same p ms)
+      count_same p (m ∷ ms) = count_inserted p m (lines_by_isin ms) ∙ one_more (p m) (keep p (lines_by_isin ms)) (keep p ms) (count_same p ms)
         where
           one_more : (a : Bool) (ks ns : List Line) → length ks ≡ length ns → length (cond a (m ∷ ks) ks) ≡ length (cond a (m ∷ ns) ns)
           one_more true ks ns e = ap suc e

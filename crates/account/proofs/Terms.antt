@@ -6,11 +6,13 @@ use Rattle.std.proofs.lemmas.Bool.{and_parts, and_from, eqb-true, eq-eqb}
 use Rattle.quantities.specs.declared.isin.Isin.{Isin}
 use Rattle.account.specs.declared.line.Side.{Side}
 use Rattle.account.specs.declared.line.Side.TheVariants.{Bought, Sold}
-use Rattle.account.specs.declared.line.Block.{Block}
-use Rattle.account.specs.declared.line.Block.TheVariants.{Trade, Failed, Held, CashOnly}
+use Rattle.account.specs.declared.block.Block.{Block}
+use Rattle.account.specs.declared.block.Block.TheVariants.{Trade, Failed, Held, CashOnly}
 use Rattle.account.specs.declared.line.Line.{Line}
-use Rattle.account.specs.Lines.{Kind, trade, failed, held, cash_only, kind, date, same_kind, same_side, same_isin, same_terms, keep, sum_of, sum_ℤ}
-use Rattle.account.specs.Joint.{Joint}
+use Rattle.account.specs.Lines.{block_name, date, is_same_block, same_side, same_isin, same_terms, keep, sum_of, sum_ℤ}
+use Rattle.account.specs.declared.block.BlockName.{BlockName}
+use Rattle.account.specs.declared.block.BlockName.TheVariants.{Trade as trade, Failed as failed, Held as held, CashOnly as cash_only}
+use Rattle.account.specs.Joint.{IsJointBook}
 use Rattle.account.proofs.Sums.{joint_sum, sum_pos, sum_kept}
 
 pub same_isin_decides : (i j : Isin) → Decides (same_isin i j) (i ≡ j)
@@ -27,13 +29,13 @@ same_side_itself : (s : Side) → same_side s s ≡ true
 same_side_itself Bought = refl
 same_side_itself Sold = refl
 
-pub same_kind_itself : (k : Kind) → same_kind k k ≡ true
+pub same_kind_itself : (k : BlockName) → is_same_block k k ≡ true
 same_kind_itself trade = refl
 same_kind_itself failed = refl
 same_kind_itself held = refl
 same_kind_itself cash_only = refl
 
-pub same_kind_is : (j k : Kind) → same_kind j k ≡ true → j ≡ k
+pub same_kind_is : (j k : BlockName) → is_same_block j k ≡ true → j ≡ k
 same_kind_is trade trade h = refl
 same_kind_is trade failed h = cc
 same_kind_is trade held h = cc
@@ -51,7 +53,7 @@ same_kind_is cash_only failed h = cc
 same_kind_is cash_only held h = cc
 same_kind_is cash_only cash_only h = refl
 
-same_block : (p q : Block) → same_kind (kind p) (kind q) ≡ true → date p ≡ date q → p ≡ q
+same_block : (p q : Block) → is_same_block (block_name p) (block_name q) ≡ true → date p ≡ date q → p ≡ q
 same_block (Trade d) (Trade e) k h = cc
 same_block (Trade d) (Failed e) k h = cc
 same_block (Trade d) (Held e) k h = cc
@@ -90,7 +92,7 @@ same_bare x y h =
 same_terms_itself : (x : Line) → same_terms x x ≡ true
 same_terms_itself x =
     and_from _ _ ((same_isin_decides x.isin x.isin).1 refl) (and_from _ _ (same_side_itself x.side) (and_from _ _ (eq-eqb x.titles x.titles refl)
-    (and_from _ _ (eq-eqb x.cash x.cash refl) (and_from _ _ (same_kind_itself (kind x.block)) (eq-eqb (date x.block) (date x.block) refl)))))
+    (and_from _ _ (eq-eqb x.cash x.cash refl) (and_from _ _ (same_kind_itself (block_name x.block)) (eq-eqb (date x.block) (date x.block) refl)))))
 
 same_terms_alike : (x y z : Line) → same_terms x y ≡ true → same_terms z x ≡ same_terms z y
 same_terms_alike x y z h = ap (same_terms z) (same_bare x y h)
@@ -99,7 +101,7 @@ same_terms_alike x y z h = ap (same_terms z) (same_bare x y h)
 pub record Adds (a b c : List Line) : Type 0 where
   pub sums : (f : Line → ℤ) → ((l : Line) → f (bare l) ≡ f l) → sum_ℤ f c ≡ sum_ℤ f a +ℤ sum_ℤ f b
 
-pub joint_adds : (a b c : List Line) → Joint a b c → Adds a b c
+pub joint_adds : (a b c : List Line) → IsJointBook a b c → Adds a b c
 joint_adds a b c j = record { sums = λ f same. joint_sum same_terms same_terms_itself same_terms_alike f (λ x y h. sym (same x) ∙ ap f (same_bare x y h) ∙ same y) a b c j }
 
 pub adds_ℕ : {a b c : List Line} → Adds a b c → (f : Line → ℕ) → ((l : Line) → f (bare l) ≡ f l) → sum_of f c ≡ sum_of f a + sum_of f b

@@ -20,29 +20,29 @@ pub data Answer : Type 0 where
   given : ℕ → ℕ → Answer
 
 -- what the code answers
-abbrev pub Answered : Type 0
-Answered = Result Reply LineRefusal
+abbrev pub CallResult : Type 0
+CallResult = Result Reply LineRefusal
 
--- an answer as its reader tells it
-abbrev pub told_answer : Answered → Answer
-told_answer (Ok Accepted) = accepted
-told_answer (Ok (Given m)) = given m.cents m.rounded_amounts
-told_answer (Err r) = refused (number r.refusal) r.reference
+-- an answer as its reader has it
+abbrev pub answer_of_call : CallResult → Answer
+answer_of_call (Ok Accepted) = accepted
+answer_of_call (Ok (Given m)) = given m.cents m.rounded_amounts
+answer_of_call (Err r) = refused (number r.refusal) r.reference
 
 -- what entering a line came to, as an answer
-abbrev pub told_enter : Line → Result (Unit {0}) Refusal → Answer
-told_enter l (Ok _) = accepted
-told_enter l (Err e) = refused (number e) l.reference
+abbrev pub answer_of_enter : Line → Result (Unit {0}) Refusal → Answer
+answer_of_enter l (Ok _) = accepted
+answer_of_enter l (Err e) = refused (number e) l.reference
 
 -- what withdrawing a reference came to
-abbrev pub told_withdraw : ℕ → Result Line Refusal → Answer
-told_withdraw r (Ok l) = accepted
-told_withdraw r (Err e) = refused (number e) r
+abbrev pub answer_of_withdraw : ℕ → Result Line Refusal → Answer
+answer_of_withdraw r (Ok l) = accepted
+answer_of_withdraw r (Err e) = refused (number e) r
 
 -- what asking for the margin came to
-abbrev pub told_margin : Result Margin LineRefusal → Answer
-told_margin (Ok m) = given m.cents m.rounded_amounts
-told_margin (Err r) = refused (number r.refusal) r.reference
+abbrev pub answer_of_margin : Result Margin LineRefusal → Answer
+answer_of_margin (Ok m) = given m.cents m.rounded_amounts
+answer_of_margin (Err r) = refused (number r.refusal) r.reference
 
 -- a call with its answer
 abbrev pub Event : Type 0
@@ -53,28 +53,28 @@ abbrev pub line_rank : Line → ℕ
 line_rank l = l.reference
 
 -- what an accepted call leaves standing
-abbrev pub done : Call → List Line → List Line
-done (Enter l) ls = inserted_by line_rank l ls
-done (Withdraw r) ls = without line_rank r ls
-done AskMargin ls = ls
+abbrev pub lines_if_accepted : Call → List Line → List Line
+lines_if_accepted (Enter l) ls = inserted_by line_rank l ls
+lines_if_accepted (Withdraw r) ls = without line_rank r ls
+lines_if_accepted AskMargin ls = ls
 
 -- a refused call changes nothing, nor does a margin
-abbrev pub moved : Call → Answer → List Line → List Line
-moved c accepted ls = done c ls
-moved c (refused n r) ls = ls
-moved c (given m k) ls = ls
+abbrev pub lines_after : Call → Answer → List Line → List Line
+lines_after c accepted ls = lines_if_accepted c ls
+lines_after c (refused n r) ls = ls
+lines_after c (given m k) ls = ls
 
 -- the lines standing after calls, from lines that stood before
-abbrev pub standing_from : List Line → List Event → List Line
-standing_from ls [] = ls
-standing_from ls (e ∷ es) = standing_from (moved e.0 e.1 ls) es
+abbrev pub lines_standing_from : List Line → List Event → List Line
+lines_standing_from ls [] = ls
+lines_standing_from ls (e ∷ es) = lines_standing_from (lines_after e.0 e.1 ls) es
 
 -- the lines standing after calls, the oldest call first: before it there are none
-abbrev pub standing : List Event → List Line
-standing es = standing_from [] es
+abbrev pub lines_standing : List Event → List Line
+lines_standing es = lines_standing_from [] es
 
 -- calls beside the answers that were written for them
-abbrev pub events : List Call → List Answered → List Event
+abbrev pub events : List Call → List CallResult → List Event
 events [] answers = []
 events (c ∷ cs) [] = []
-events (c ∷ cs) (a ∷ answers) = (c, told_answer a) ∷ events cs answers
+events (c ∷ cs) (a ∷ answers) = (c, answer_of_call a) ∷ events cs answers

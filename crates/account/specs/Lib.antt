@@ -7,6 +7,6 @@ pub mod Margin
 pub mod Exact
 pub mod Calls
 pub mod Answers
-pub mod Taken
+pub mod Valid
 pub mod Joint
 pub mod History

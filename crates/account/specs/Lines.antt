@@ -1,5 +1,5 @@
 -- Lines, and the questions asked of them.
-use Rattle.std.specs.Prelude.{◌≡◌, ℕ, ◌+◌, Bool, true, false, cond, ◌&&◌, ◌||◌, List, [], ◌∷◌, ℤ, pos, ◌+ℤ◌, ◌==◌}
+use Rattle.std.specs.Prelude.{◌≡◌, ℕ, ◌+◌, Bool, true, false, ◌&&◌, ◌||◌, List, [], ◌∷◌, ℤ, pos, ◌+ℤ◌, ◌==◌, if◌then◌else◌, ⊤}
 use Rattle.std.specs.Str.{bytes_eq}
 use Rattle.quantities.specs.declared.isin.Isin.{Isin}
 use Rattle.register.specs.Bytes.{Bytes}
@@ -7,23 +7,25 @@ use Rattle.register.specs.Keys.{Ascends, inserted_by}
 use Rattle.market.specs.Records.{isin_rank}
 use Rattle.account.specs.declared.line.Side.{Side}
 use Rattle.account.specs.declared.line.Side.TheVariants.{Bought, Sold}
-use Rattle.account.specs.declared.line.Block.{Block}
-use Rattle.account.specs.declared.line.Block.TheVariants.{Trade, Failed, Held, CashOnly}
+use Rattle.account.specs.declared.block.Block.{Block}
+use Rattle.account.specs.declared.block.Block.TheVariants.{Trade, Failed, Held, CashOnly}
+use Rattle.account.specs.declared.block.BlockName.{BlockName}
+use Rattle.account.specs.declared.block.BlockName.TheVariants.{Trade as trade, Failed as failed, Held as held, CashOnly as cash_only}
 use Rattle.account.specs.declared.line.Line.{Line}
 
--- the four blocks
-pub data Kind : Type 0 where
-  trade : Kind
-  failed : Kind
-  held : Kind
-  cash_only : Kind
-
 -- the block of a line, without its date
-abbrev pub kind : Block → Kind
-kind (Trade d) = trade
-kind (Failed d) = failed
-kind (Held d) = held
-kind (CashOnly d) = cash_only
+abbrev pub block_name : Block → BlockName
+block_name (Trade d) = trade
+block_name (Failed d) = failed
+block_name (Held d) = held
+block_name (CashOnly d) = cash_only
+
+-- the block of a name, with a date
+abbrev pub dated_block : BlockName → ℕ → Block
+dated_block trade d = Trade d
+dated_block failed d = Failed d
+dated_block held d = Held d
+dated_block cash_only d = CashOnly d
 
 -- the date of a line, which for a trade is its settlement date
 abbrev pub date : Block → ℕ
@@ -33,16 +35,18 @@ date (Held d) = d
 date (CashOnly d) = d
 
 -- whether two blocks are one
-abbrev pub same_kind : Kind → Kind → Bool
-same_kind trade k = elim k [ trade ↦ true | failed ↦ false | held ↦ false | cash_only ↦ false ]
-same_kind failed k = elim k [ trade ↦ false | failed ↦ true | held ↦ false | cash_only ↦ false ]
-same_kind held k = elim k [ trade ↦ false | failed ↦ false | held ↦ true | cash_only ↦ false ]
-same_kind cash_only k = elim k [ trade ↦ false | failed ↦ false | held ↦ false | cash_only ↦ true ]
+abbrev pub is_same_block : BlockName → BlockName → Bool
+is_same_block trade trade = true
+is_same_block failed failed = true
+is_same_block held held = true
+is_same_block cash_only cash_only = true
+is_same_block j k = false
 
 -- whether two sides are one
 abbrev pub same_side : Side → Side → Bool
-same_side Bought t = elim t [ Bought ↦ true | Sold ↦ false ]
-same_side Sold t = elim t [ Bought ↦ false | Sold ↦ true ]
+same_side Bought Bought = true
+same_side Sold Sold = true
+same_side s t = false
 
 -- whether two ISINs are one
 abbrev pub same_isin : Isin → Isin → Bool
@@ -60,11 +64,11 @@ if_sold Sold n = n
 
 -- whether a line is a trade
 abbrev pub is_trade : Line → Bool
-is_trade l = same_kind (kind l.block) trade
+is_trade l = is_same_block (block_name l.block) trade
 
 -- whether a line is of an ISIN and block
-abbrev pub of : Isin → Kind → Line → Bool
-of i k l = same_isin l.isin i && same_kind (kind l.block) k
+abbrev pub is_in_block : Isin → BlockName → Line → Bool
+is_in_block i k l = same_isin l.isin i && is_same_block (block_name l.block) k
 
 -- whether two lines are the same, their references left out
 abbrev pub same_terms : Line → Line → Bool
@@ -73,13 +77,15 @@ same_terms a b =
     && (same_side a.side b.side
     && (a.titles == b.titles
     && (a.cash == b.cash
-    && (same_kind (kind a.block) (kind b.block) && date a.block == date b.block))))
+    && (is_same_block (block_name a.block) (block_name b.block) && date a.block == date b.block))))
 
--- keep, sum_of and any stand here and not as the library's filter, sum_by and list_any: an auditor reads them beside the lines
+-- keep, sum_of and any are the library's filter, sum_by and list_any, written out here so that an
+-- auditor reads them beside the lines
+
 -- those of a list that pass a test
 abbrev pub keep : {X : Type 0} → (X → Bool) → List X → List X
 keep p [] = []
-keep p (x ∷ xs) = cond (p x) (x ∷ keep p xs) (keep p xs)
+keep p (x ∷ xs) = if p x then x ∷ keep p xs else keep p xs
 
 -- a number of each, all added
 abbrev pub sum_of : {X : Type 0} → (X → ℕ) → List X → ℕ
@@ -102,7 +108,7 @@ has_isin i js = any (same_isin i) js
 
 -- one more ISIN, in byte order and once only
 abbrev pub with_isin : Isin → List Isin → List Isin
-with_isin i js = cond (has_isin i js) js (inserted_by isin_rank i js)
+with_isin i js = if has_isin i js then js else inserted_by isin_rank i js
 
 -- the ISINs that have a line, in byte order, each once
 abbrev pub isins : List Line → List Isin
@@ -111,11 +117,12 @@ isins (l ∷ ls) = with_isin l.isin (isins ls)
 
 -- each line has an ISIN of twelve bytes
 abbrev pub TwelveBytes : List Line → Type 0
-TwelveBytes [] = Unit {0}
+TwelveBytes [] = ⊤
 TwelveBytes (l ∷ ls) = Bytes 12 l.isin.bytes × TwelveBytes ls
 
 -- the ISINs of lines ascend in byte order, and are just those that the lines have
 abbrev pub IsinsLaw : Type 0
 IsinsLaw =
     (ls : List Line) → TwelveBytes ls →
-    Ascends isin_rank (isins ls) × ((i : Isin) → has_isin i (isins ls) ≡ any (λ l. same_isin i l.isin) ls)
+    Ascends isin_rank (isins ls)
+    × ((i : Isin) → has_isin i (isins ls) ≡ any (λ l. same_isin i l.isin) ls)

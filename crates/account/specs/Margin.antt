@@ -2,7 +2,9 @@
 use Rattle.std.specs.Prelude.{ℕ, ◌+◌, List, [], ◌∷◌, length, ℤ, pos, negsuc}
 use Rattle.quantities.specs.declared.isin.Isin.{Isin}
 use Rattle.account.specs.declared.line.Line.{Line}
-use Rattle.account.specs.Lines.{Kind, trade, failed, held, cash_only, same_kind, is_trade, of, keep, sum_of, sum_ℤ, isins}
+use Rattle.account.specs.Lines.{is_same_block, is_trade, is_in_block, keep, sum_of, sum_ℤ, isins}
+use Rattle.account.specs.declared.block.BlockName.{BlockName}
+use Rattle.account.specs.declared.block.BlockName.TheVariants.{Trade as trade, Failed as failed, Held as held, CashOnly as cash_only}
 use Rattle.account.specs.Settings.{Setting}
 use Rattle.account.specs.declared.row.Row.{Row}
 use Rattle.account.specs.Rows.{block_of, charge, statement_rows}
@@ -13,12 +15,17 @@ not_below_zero (pos n) = n
 not_below_zero (negsuc n) = 0
 
 -- the charges of the rows of a block, added; as a whole never below zero
-abbrev pub block_sum : Kind → List Row → ℕ
-block_sum k rows = not_below_zero (sum_ℤ charge (keep (λ r. same_kind (block_of r.scope) k) rows))
+abbrev pub block_sum : BlockName → List Row → ℕ
+block_sum k rows =
+    not_below_zero (sum_ℤ charge (keep (λ r. is_same_block (block_of r.scope) k) rows))
 
 -- the sums of the four blocks, added
 abbrev pub total : List Row → ℕ
-total rows = block_sum trade rows + (block_sum failed rows + (block_sum held rows + block_sum cash_only rows))
+total rows =
+    block_sum trade rows
+    + (block_sum failed rows
+    + (block_sum held rows
+    + block_sum cash_only rows))
 
 -- the margin of lines is worked from the rows of their statement
 abbrev pub margin : Setting → List Line → ℕ
@@ -29,10 +36,14 @@ abbrev pub two_if_any : List Line → ℕ
 two_if_any [] = 0
 two_if_any (l ∷ ls) = 2
 
--- an initial margin and a market value each for the trades, the failed and the held lines of an ISIN, where there are any
-abbrev pub rounded_at : List Line → Isin → ℕ
-rounded_at ls i = two_if_any (keep (of i trade) ls) + (two_if_any (keep (of i failed) ls) + two_if_any (keep (of i held) ls))
+-- an initial margin and a market value each for the trades, the failed and the held lines of an
+-- ISIN, where there are any
+abbrev pub rounded_amounts_at : List Line → Isin → ℕ
+rounded_amounts_at ls i =
+    two_if_any (keep (is_in_block i trade) ls)
+    + (two_if_any (keep (is_in_block i failed) ls)
+    + two_if_any (keep (is_in_block i held) ls))
 
 -- those of every ISIN, and a present value for each trade
 abbrev pub rounded_amounts : List Line → ℕ
-rounded_amounts ls = sum_of (rounded_at ls) (isins ls) + length (keep is_trade ls)
+rounded_amounts ls = sum_of (rounded_amounts_at ls) (isins ls) + length (keep is_trade ls)

@@ -16,7 +16,8 @@ pub struct IsinReference {
     pub reference: u32,
 }
 
-// A function and no bare `cmp`: its contract has the bounds by which an ISIN outweighs every reference.
+// A function and no bare `cmp`: its contract has the bounds by which an ISIN outweighs every
+// reference.
 fn reference_order(left: u32, right: u32) -> Ordering
     ensures order { result ≡ nat_cmp left right }
     ensures left { left < 2 ^ 32 }

@@ -17,7 +17,8 @@ pub fn laws_stand()
     ensures no_lines_law { NoLinesLaw }
     // The margin of a joint book is at most the two margins added.
     ensures joint_bound { JointBound }
-    // The margin is never below the exact one, and above it by at most one cent for each rounded amount.
+    // The margin is never below the exact one, and above it by at most one cent for each rounded
+    // amount.
     ensures cents_bound { CentsBound }
     // The first bound, of the margins that books are answered.
     ensures joint_law { JointLaw }

@@ -1,24 +1,16 @@
 //! The lines of an account.
 ghost use Rattle.std.specs.Prelude.{◌≡◌};
 
-use quantities::date::Date;
+use crate::block::Block;
 use quantities::isin::Isin;
 use register::record::Record;
 
-/// Which way the titles of a line go; a cash-only line that is bought pays, one that is sold receives.
+/// Which way the titles of a line go; a cash-only line that is bought pays, one that is sold
+/// receives.
 #[derive(Clone, Copy, PartialEq, Eq, Debug)]
 pub enum Side {
     Bought,
     Sold,
-}
-
-/// Where a line stands, with its date: for a trade the day on which it settles.
-#[derive(Clone, Copy, PartialEq, Eq, Debug)]
-pub enum Block {
-    Trade(Date),
-    Failed(Date),
-    Held(Date),
-    CashOnly(Date),
 }
 
 /// A line as it is handed.

@@ -5,9 +5,9 @@ use quantities::isin::Isin;
 /// Which trades settle: all, those not dated today, or those dated after the next business day.
 #[derive(Clone, Copy, PartialEq, Eq, Debug)]
 pub enum Scenario {
-    AllTrades = 1,
-    WithoutToday = 2,
-    WithoutNext = 3,
+    AllTrades,
+    WithoutToday,
+    AfterNext,
 }
 
 /// The lines of an ISIN that a row is worked on.

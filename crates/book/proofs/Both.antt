@@ -11,7 +11,7 @@ use Rattle.register.specs.Changes.{Inserts, Removes}
 use Rattle.account.specs.declared.line.Line.{Line}
 use Rattle.account.specs.declared.by_isin.ByIsin.{ByIsin}
 use Rattle.account.specs.Calls.{line_rank}
-use Rattle.account.specs.ByIsin.{isin_line_rank, by_isin, lines_in, Small}
+use Rattle.account.specs.ByIsin.{isin_line_rank, lines_by_isin, lines_in, SmallReferences}
 use Rattle.account.proofs.ByIsin.{by_isin_long, absent, entered, withdrawn, present}
 use Rattle.account.proofs.InRecords.{map_has, map_inserted, map_without, map_found}
 
@@ -33,7 +33,7 @@ module _ {X : Type 0} (f : X → ℕ) (room : ℕ) (r : X) (xs after : List X) (
   pub fitting_inserted : length xs < room → after ≡ inserted_by f r xs
   fitting_inserted l = i.leaves ∙ cond-false (has_rank f (f r) xs) _ _ new ∙ cond-true (ltb (length xs) room) _ _ (lt-ltb _ _ l)
 
-module _ (ls : List Line) (xs : List ByIsin) (small : Small ls) (same : lines_in xs ≡ by_isin ls) where
+module _ (ls : List Line) (xs : List ByIsin) (small : SmallReferences ls) (same : lines_in xs ≡ lines_by_isin ls) where
   same_long : length xs ≡ length ls
   same_long = sym (length-map xs (λ x. x.line)) ∙ ap length same ∙ by_isin_long ls
 
@@ -50,13 +50,13 @@ module _ (ls : List Line) (xs : List ByIsin) (small : Small ls) (same : lines_in
     pub entered_twice : answer2 ≡ Ok tt
     entered_twice = fitting_accepted (λ x. isin_line_rank x.line) room2 (record { line = l }) xs xs2 answer2 new2 j fits
 
-    pub same_entered : l.reference < 2 ^ 32 → lines_in xs2 ≡ by_isin ls2
+    pub same_entered : l.reference < 2 ^ 32 → lines_in xs2 ≡ lines_by_isin ls2
     same_entered b =
         ap lines_in (fitting_inserted (λ x. isin_line_rank x.line) room2 (record { line = l }) xs xs2 answer2 new2 j fits)
         ∙ map_inserted isin_line_rank (λ x. x.line) (record { line = l }) xs
         ∙ ap (inserted_by isin_line_rank l) same
         ∙ sym (entered l ls b small new)
-        ∙ ap by_isin (sym (fitting_inserted line_rank room l ls ls2 (Ok tt) new i (accepted_fits line_rank room l ls ls2 (Ok tt) new i refl)))
+        ∙ ap lines_by_isin (sym (fitting_inserted line_rank room l ls ls2 (Ok tt) new i (accepted_fits line_rank room l ls ls2 (Ok tt) new i refl)))
 
   -- ---- a line is withdrawn
   module _ (r : ℕ) (l : Line) (ls2 : List Line) (xs2 : List ByIsin) (answer2 : Result ByIsin Refusal) (up : Ascends line_rank ls)
@@ -80,10 +80,10 @@ module _ (ls : List Line) (xs : List ByIsin) (small : Small ls) (same : lines_in
         go None = refl
         go (Some x) = refl
 
-    pub same_withdrawn : lines_in xs2 ≡ by_isin ls2
+    pub same_withdrawn : lines_in xs2 ≡ lines_by_isin ls2
     same_withdrawn =
         ap lines_in p.leaves
         ∙ map_without isin_line_rank (λ x. x.line) (isin_line_rank l) xs
         ∙ ap (without isin_line_rank (isin_line_rank l)) same
         ∙ sym (withdrawn r l ls small up found)
-        ∙ ap by_isin (sym o.leaves)
+        ∙ ap lines_by_isin (sym o.leaves)

@@ -8,9 +8,9 @@ use Rattle.register.specs.Changes.{Inserts}
 use Rattle.register.specs.Keys.{has_rank, found_by, inserted_by}
 use Rattle.account.specs.declared.line.Line.{Line}
 use Rattle.account.specs.declared.call.Call.TheVariants.{Enter}
-use Rattle.account.specs.Calls.{accepted, refused, told_enter, line_rank, moved}
-use Rattle.account.specs.Answers.{well_formed, well_dated, titles_with, enter_answer}
-use Rattle.book.specs.Checks.{Admitted}
+use Rattle.account.specs.Calls.{accepted, refused, answer_of_enter, line_rank, lines_after}
+use Rattle.account.specs.Answers.{is_well_formed, is_well_dated, titles_with, enter_answer}
+use Rattle.book.specs.LineChecks.{IsAdmissible}
 
 -- ---- a search tells whether a reference stands
 pub found_is : (f : Line → ℕ) (k : ℕ) (ls : List Line) → is_some (found_by f k ls) ≡ has_rank f k ls
@@ -23,41 +23,41 @@ found_is f k (l ∷ ls) = go (eqb (f l) k) (found_is f k ls)
 
 -- ---- the answer, check by check
 module _ (today room : ℕ) (ls : List Line) (l : Line) where
-  pub present : well_formed l ≡ true → has_rank line_rank l.reference ls ≡ true → refused 6 l.reference ≡ enter_answer today room ls l
-  present f h = sym (cond-false (not (well_formed l)) _ _ (not_from_true (well_formed l) f) ∙ cond-true (has_rank line_rank l.reference ls) _ _ h)
+  pub present : is_well_formed l ≡ true → has_rank line_rank l.reference ls ≡ true → refused 6 l.reference ≡ enter_answer today room ls l
+  present f h = sym (cond-false (not (is_well_formed l)) _ _ (not_from_true (is_well_formed l) f) ∙ cond-true (has_rank line_rank l.reference ls) _ _ h)
 
-  pub ill_dated : well_formed l ≡ true → has_rank line_rank l.reference ls ≡ false → well_dated today l.block ≡ false → refused 7 l.reference ≡ enter_answer today room ls l
+  pub ill_dated : is_well_formed l ≡ true → has_rank line_rank l.reference ls ≡ false → is_well_dated today l.block ≡ false → refused 7 l.reference ≡ enter_answer today room ls l
   ill_dated f h d =
-      sym (cond-false (not (well_formed l)) _ _ (not_from_true (well_formed l) f) ∙ cond-false (has_rank line_rank l.reference ls) _ _ h
-      ∙ cond-true (not (well_dated today l.block)) _ _ (not_from_false (well_dated today l.block) d))
+      sym (cond-false (not (is_well_formed l)) _ _ (not_from_true (is_well_formed l) f) ∙ cond-false (has_rank line_rank l.reference ls) _ _ h
+      ∙ cond-true (not (is_well_dated today l.block)) _ _ (not_from_false (is_well_dated today l.block) d))
 
-  pub too_many : well_formed l ≡ true → has_rank line_rank l.reference ls ≡ false → well_dated today l.block ≡ true → most_titles < titles_with l ls → refused 8 l.reference ≡ enter_answer today room ls l
+  pub too_many : is_well_formed l ≡ true → has_rank line_rank l.reference ls ≡ false → is_well_dated today l.block ≡ true → most_titles < titles_with l ls → refused 8 l.reference ≡ enter_answer today room ls l
   too_many f h d t =
-      sym (cond-false (not (well_formed l)) _ _ (not_from_true (well_formed l) f) ∙ cond-false (has_rank line_rank l.reference ls) _ _ h
-      ∙ cond-false (not (well_dated today l.block)) _ _ (not_from_true (well_dated today l.block) d)
+      sym (cond-false (not (is_well_formed l)) _ _ (not_from_true (is_well_formed l) f) ∙ cond-false (has_rank line_rank l.reference ls) _ _ h
+      ∙ cond-false (not (is_well_dated today l.block)) _ _ (not_from_true (is_well_dated today l.block) d)
       ∙ cond-true (ltb most_titles (titles_with l ls)) _ _ (lt-ltb most_titles (titles_with l ls) t))
 
   -- a line that is admitted only wants a place
-  pub admitted : Admitted today ls l → enter_answer today room ls l ≡ cond (ltb (length ls) room) accepted (refused 9 l.reference)
+  pub admitted : IsAdmissible today ls l → enter_answer today room ls l ≡ cond (ltb (length ls) room) accepted (refused 9 l.reference)
   admitted a =
-      cond-false (not (well_formed l)) _ _ (not_from_true (well_formed l) a.formed) ∙ cond-false (has_rank line_rank l.reference ls) _ _ a.new
-      ∙ cond-false (not (well_dated today l.block)) _ _ (not_from_true (well_dated today l.block) a.dated)
+      cond-false (not (is_well_formed l)) _ _ (not_from_true (is_well_formed l) a.formed) ∙ cond-false (has_rank line_rank l.reference ls) _ _ a.new
+      ∙ cond-false (not (is_well_dated today l.block)) _ _ (not_from_true (is_well_dated today l.block) a.dated)
       ∙ cond-false (ltb most_titles (titles_with l ls)) _ _ (le-ltb most_titles (titles_with l ls) a.titles)
 
 -- ---- a line that is admitted stands, if there is a place
-module _ (today room : ℕ) (l : Line) (ls after : List Line) (answer : Result (Unit {0}) Refusal) (a : Admitted today ls l) (i : Inserts line_rank room l ls answer after) where
-  entered : (told_enter l answer ≡ enter_answer today room ls l) × (after ≡ moved (Enter l) (told_enter l answer) ls)
+module _ (today room : ℕ) (l : Line) (ls after : List Line) (answer : Result (Unit {0}) Refusal) (a : IsAdmissible today ls l) (i : Inserts line_rank room l ls answer after) where
+  entered : (answer_of_enter l answer ≡ enter_answer today room ls l) × (after ≡ lines_after (Enter l) (answer_of_enter l answer) ls)
   entered =
       let e = go (ltb (length ls) room) (i.answers ∙ cond-false (has_rank line_rank l.reference ls) _ _ a.new) (i.leaves ∙ cond-false (has_rank line_rank l.reference ls) _ _ a.new) in
       (e.0 ∙ sym (admitted today room ls l a), e.1)
     where
       go : (t : Bool) → answer ≡ cond t (Ok tt) (Err Full) → after ≡ cond t (inserted_by line_rank l ls) ls →
-          (told_enter l answer ≡ cond t accepted (refused 9 l.reference)) × (after ≡ moved (Enter l) (told_enter l answer) ls)
-      go true e z = (ap (told_enter l) e, z ∙ sym (ap (λ r. moved (Enter l) (told_enter l r) ls) e))
-      go false e z = (ap (told_enter l) e, z ∙ sym (ap (λ r. moved (Enter l) (told_enter l r) ls) e))
+          (answer_of_enter l answer ≡ cond t accepted (refused 9 l.reference)) × (after ≡ lines_after (Enter l) (answer_of_enter l answer) ls)
+      go true e z = (ap (answer_of_enter l) e, z ∙ sym (ap (λ r. lines_after (Enter l) (answer_of_enter l r) ls) e))
+      go false e z = (ap (answer_of_enter l) e, z ∙ sym (ap (λ r. lines_after (Enter l) (answer_of_enter l r) ls) e))
 
-  pub enter_answers : told_enter l answer ≡ enter_answer today room ls l
+  pub enter_answers : answer_of_enter l answer ≡ enter_answer today room ls l
   enter_answers = entered.0
 
-  pub enter_leaves : after ≡ moved (Enter l) (told_enter l answer) ls
+  pub enter_leaves : after ≡ lines_after (Enter l) (answer_of_enter l answer) ls
   enter_leaves = entered.1

@@ -1,8 +1,8 @@
 pub mod Runs
 pub mod Entering
 pub mod Withdrawing
-pub mod Taken
-pub mod Beside
+pub mod ValidLines
+pub mod TitlesAround
 pub mod Sides
 pub mod Both
 pub mod Working

@@ -9,7 +9,7 @@ use Rattle.register.specs.Changes.{Removes}
 use Rattle.register.specs.Keys.{has_rank, found_by, without}
 use Rattle.account.specs.declared.line.Line.{Line}
 use Rattle.account.specs.declared.call.Call.TheVariants.{Withdraw}
-use Rattle.account.specs.Calls.{accepted, refused, told_withdraw, line_rank, moved}
+use Rattle.account.specs.Calls.{accepted, refused, answer_of_withdraw, line_rank, lines_after}
 use Rattle.account.specs.Answers.{withdraw_answer}
 use Rattle.book.proofs.Entering.{found_is}
 
@@ -33,22 +33,22 @@ module _ (r : ℕ) (ls after : List Line) (answer : Result Line Refusal) (some :
   zero_not : eqb r 0 ≡ false
   zero_not = ne_eqb r 0 some
 
-  went : (told_withdraw r answer ≡ cond (has_rank line_rank r ls) accepted (refused 13 r)) × (after ≡ moved (Withdraw r) (told_withdraw r answer) ls)
+  went : (answer_of_withdraw r answer ≡ cond (has_rank line_rank r ls) accepted (refused 13 r)) × (after ≡ lines_after (Withdraw r) (answer_of_withdraw r answer) ls)
   went = go (found_by line_rank r ls) (found_is line_rank r ls) removes.answers
     where
       go : (o : Option Line) → is_some o ≡ has_rank line_rank r ls → answer ≡ ok_or o NotStanding →
-          (told_withdraw r answer ≡ cond (has_rank line_rank r ls) accepted (refused 13 r)) × (after ≡ moved (Withdraw r) (told_withdraw r answer) ls)
+          (answer_of_withdraw r answer ≡ cond (has_rank line_rank r ls) accepted (refused 13 r)) × (after ≡ lines_after (Withdraw r) (answer_of_withdraw r answer) ls)
       go None h e = (
-        ap (told_withdraw r) e ∙ ap (λ b. cond b accepted (refused 13 r)) h,
-        removes.leaves ∙ without_absent r ls (sym h) ∙ sym (ap (λ a. moved (Withdraw r) (told_withdraw r a) ls) e),
+        ap (answer_of_withdraw r) e ∙ ap (λ b. cond b accepted (refused 13 r)) h,
+        removes.leaves ∙ without_absent r ls (sym h) ∙ sym (ap (λ a. lines_after (Withdraw r) (answer_of_withdraw r a) ls) e),
       )
       go (Some l) h e =
-          (ap (told_withdraw r) e ∙ ap (λ b. cond b accepted (refused 13 r)) h, removes.leaves ∙ sym (ap (λ a. moved (Withdraw r) (told_withdraw r a) ls) e))
+          (ap (answer_of_withdraw r) e ∙ ap (λ b. cond b accepted (refused 13 r)) h, removes.leaves ∙ sym (ap (λ a. lines_after (Withdraw r) (answer_of_withdraw r a) ls) e))
 
-  pub withdraw_answers : told_withdraw r answer ≡ withdraw_answer ls r
+  pub withdraw_answers : answer_of_withdraw r answer ≡ withdraw_answer ls r
   withdraw_answers = went.0 ∙ sym (cond-false (eqb r 0) _ _ zero_not)
 
-  pub withdraw_leaves : after ≡ moved (Withdraw r) (told_withdraw r answer) ls
+  pub withdraw_leaves : after ≡ lines_after (Withdraw r) (answer_of_withdraw r answer) ls
   withdraw_leaves = went.1
 
   pub withdraw_line : result_ok answer ≡ cond (eqb r 0) None (found_by line_rank r ls)

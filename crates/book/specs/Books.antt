@@ -1,14 +1,15 @@
 -- What a book holds, and what entering and withdrawing does to it.
-use Rattle.std.specs.Prelude.{◌≡◌, ℕ, cond, List, length, drop, ℤ, None, Result, ◌==◌}
+use Rattle.std.specs.Prelude.{◌≡◌, ℕ, if◌then◌else◌, List, length, drop, ℤ, None, Result, ◌==◌}
 use Rattle.std.specs.Result.{result_ok}
 use Rattle.quantities.specs.declared.refusal.Refusal.{Refusal}
 use Rattle.register.specs.Keys.{found_by}
+use Rattle.market.specs.Contents.{Quotes}
 use Rattle.account.specs.declared.line.Line.{Line}
 use Rattle.account.specs.declared.call.Call.{Call}
 use Rattle.account.specs.declared.call.Call.TheVariants.{Enter, Withdraw}
 use Rattle.account.specs.Settings.{Setting}
-use Rattle.account.specs.Calls.{Answered, told_answer, told_enter, told_withdraw, line_rank, moved, standing_from, events}
-use Rattle.account.specs.Answers.{enter_answer, withdraw_answer, due, EachDue}
+use Rattle.account.specs.Calls.{CallResult, answer_of_call, answer_of_enter, answer_of_withdraw, line_rank, lines_after, lines_standing_from, events}
+use Rattle.account.specs.Answers.{enter_answer, withdraw_answer, due_answer, EachDue}
 use Rattle.valuation.specs.Setups.{setting_with}
 use Rattle.book.specs.declared.book.Book.{Book}
 
@@ -20,41 +21,56 @@ lines_of b = b.lines.records
 abbrev pub room_for : Book → ℕ
 room_for b = b.lines.room
 
+-- its market
+abbrev pub market_of : Book → Quotes
+market_of b = b.market.now
+
 -- its day
 abbrev pub today_of : Book → ℕ
-today_of b = b.market.now.today
+today_of b = (market_of b).today
 
--- a book has the market and the room of another
-pub record SameFrame (b c : Book) : Type 0 where
-  pub market : c.market.now ≡ b.market.now
-  pub room : room_for c ≡ room_for b
+-- its setting, by what a curve and a netting rule mean
+abbrev pub setting_for : {C N : Type 0} → (C → ℕ) → (C → ℕ → ℤ) → (N → ℕ → ℕ → ℕ) →
+    C → N → Book → Setting
+setting_for reach rate charged curve rule b =
+    setting_with (reach curve) (rate curve) (charged rule) (market_of b)
+
+-- a book keeps its market and its room
+pub record KeepsMarketAndRoom (before after : Book) : Type 0 where
+  pub market : market_of after ≡ market_of before
+  pub room : room_for after ≡ room_for before
 
 -- a line is entered: the answer is the one due, and an accepted line stands with the others
-pub record Enters (l : Line) (before : Book) (answer : Result (Unit {0}) Refusal) (after : Book) : Type 0 where
-  pub answers : told_enter l answer ≡ enter_answer (today_of before) (room_for before) (lines_of before) l
-  pub leaves : lines_of after ≡ moved (Enter l) (told_enter l answer) (lines_of before)
-  pub frame : SameFrame before after
+pub record EntersLine (l : Line)
+    (before : Book) (answer : Result (Unit {0}) Refusal) (after : Book) : Type 0 where
+  pub answers :
+      answer_of_enter l answer
+      ≡ enter_answer (today_of before) (room_for before) (lines_of before) l
+  pub leaves : lines_of after ≡ lines_after (Enter l) (answer_of_enter l answer) (lines_of before)
+  pub frame : KeepsMarketAndRoom before after
 
 -- a reference is withdrawn: the answer is the one due, with the line that stood under it
-pub record Withdraws (r : ℕ) (before : Book) (answer : Result Line Refusal) (after : Book) : Type 0 where
-  pub answers : told_withdraw r answer ≡ withdraw_answer (lines_of before) r
-  pub line : result_ok answer ≡ cond (r == 0) None (found_by line_rank r (lines_of before))
-  pub leaves : lines_of after ≡ moved (Withdraw r) (told_withdraw r answer) (lines_of before)
-  pub frame : SameFrame before after
+pub record WithdrawsLine (r : ℕ)
+    (before : Book) (answer : Result Line Refusal) (after : Book) : Type 0 where
+  pub answers : answer_of_withdraw r answer ≡ withdraw_answer (lines_of before) r
+  pub line :
+      result_ok answer ≡ if r == 0 then None else found_by line_rank r (lines_of before)
+  pub leaves :
+      lines_of after ≡ lines_after (Withdraw r) (answer_of_withdraw r answer) (lines_of before)
+  pub frame : KeepsMarketAndRoom before after
 
--- the setting of a book, by the meanings of a curve and a netting rule
-abbrev pub setting_for : ℕ → (ℕ → ℤ) → (ℕ → ℕ → ℕ) → Book → Setting
-setting_for reach rate charged b = setting_with reach rate charged b.market.now
+-- a call is answered: the answer is the one due, and what it leaves stands
+pub record AnswersCall (s : Setting) (call : Call)
+    (before : Book) (answer : CallResult) (after : Book) : Type 0 where
+  pub answers : answer_of_call answer ≡ due_answer s (room_for before) (lines_of before) call
+  pub leaves : lines_of after ≡ lines_after call (answer_of_call answer) (lines_of before)
+  pub frame : KeepsMarketAndRoom before after
 
--- a call is taken: the answer is the one due, and what it leaves stands
-pub record Takes (reach : ℕ) (rate : ℕ → ℤ) (charged : ℕ → ℕ → ℕ) (call : Call) (before : Book) (answer : Answered) (after : Book) : Type 0 where
-  pub answers : told_answer answer ≡ due (setting_for reach rate charged before) (room_for before) (lines_of before) call
-  pub leaves : lines_of after ≡ moved call (told_answer answer) (lines_of before)
-  pub frame : SameFrame before after
-
--- calls are taken one after another, and their answers written in order; places after them keep what they held
-pub record TakesAll (reach : ℕ) (rate : ℕ → ℤ) (charged : ℕ → ℕ → ℕ) (calls : List Call) (places : List Answered) (before : Book) (answers : List Answered) (after : Book) : Type 0 where
-  pub each : EachDue (setting_for reach rate charged before) (room_for before) (lines_of before) (events calls answers)
-  pub leaves : lines_of after ≡ standing_from (lines_of before) (events calls answers)
+-- calls are answered one after another, and their answers written in order;
+-- places after them keep what they held
+pub record AnswersEachCall (s : Setting) (calls : List Call) (places : List CallResult)
+    (before : Book) (answers : List CallResult) (after : Book) : Type 0 where
+  pub each : EachDue s (room_for before) (lines_of before) (events calls answers)
+  pub leaves : lines_of after ≡ lines_standing_from (lines_of before) (events calls answers)
   pub kept : drop (length calls) answers ≡ drop (length calls) places
-  pub frame : SameFrame before after
+  pub frame : KeepsMarketAndRoom before after

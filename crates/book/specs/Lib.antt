@@ -1,3 +1,3 @@
-pub mod Checks
+pub mod LineChecks
 pub mod Books
-pub mod Ledgers
+pub mod Journals

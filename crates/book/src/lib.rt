@@ -3,6 +3,6 @@
 
 pub mod book;
 mod check;
+pub mod journal;
 #[cfg(test)]
 mod tests;
-pub mod work;

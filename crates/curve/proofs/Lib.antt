@@ -1,3 +1,4 @@
-mod Found
-mod Passed
-mod Sloped
+mod TermPlaces
+pub mod Parts
+mod PassedPoints
+mod SlopeRates

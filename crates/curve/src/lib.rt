@@ -2,7 +2,7 @@
 #![tactic(auto)]
 
 ghost use Rattle.std.specs.Prelude.{◌≡◌, ℕ, ℤ};
-ghost use Rattle.quantities.specs.Checked.{told};
+ghost use Rattle.quantities.specs.RangeChecks.{numbers_of};
 ghost use Rattle.curve.specs.Curves.{rate_answer, Discounting};
 
 use quantities::range::Rate;
@@ -20,7 +20,8 @@ pub trait Curve {
 
     /// The rate for a term; refuses a term that is not below the reach.
     fn rate_for(&self, term: u16) -> Result<Rate, Refusal>
-        ensures answer { told (λ rate. rate.basis_points) result ≡ rate_answer (reach self.now) (rate self.now) term }
+        ensures answer { numbers_of (λ rate. rate.basis_points) result
+            ≡ rate_answer (reach self.now) (rate self.now) term }
         ensures unchanged { self.exit.now ≡ self.entry.now };
 
     ghost discounting: { (curve : Self) → Discounting (reach curve) (rate curve) };

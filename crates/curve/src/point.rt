@@ -1,20 +1,45 @@
 //! The points that a curve is made from.
-ghost use Rattle.std.specs.Prelude.{◌≡◌, ◌≤◌};
+ghost use Rattle.quantities.specs.RangeChecks.{numbers_of};
 ghost use Rattle.quantities.specs.Ranges.{longest_curve_term};
+ghost use Rattle.std.specs.Prelude.{◌≡◌, ◌≤◌};
 
 use quantities::range::Rate;
+use quantities::refusal::Refusal;
 use register::record::Record;
 
 pub mod points;
 
 /// A rate at a term in days.
-#[derive(Clone, Copy)]
+#[derive(Clone, Copy, Debug, PartialEq, Eq)]
 pub struct Point {
     pub term: u16,
     pub rate: Rate,
     ghost within: { term ≤ longest_curve_term },
 }
 
+impl Point {
+    ghost use Rattle.curve.specs.Points.{point_answer, point_parts};
+
+    /// The point of a term and a rate; refuses a rate out of its range.
+    pub fn new(term: u16, rate: i16) -> Result<Point, Refusal>
+        ensures { numbers_of point_parts result ≡ point_answer term rate }
+    {
+        let rate = Rate::try_from(rate)?;
+        Ok(Point { term, rate })
+    }
+}
+
+/// What a free place may hold.
+impl Default for Point {
+    fn default() -> Point {
+        Point {
+            term: 0,
+            rate: Rate { basis_points: 0 },
+        }
+    }
+}
+
+/// Points go by their term.
 impl Record for Point {
     type Key = u16;
 
@@ -22,14 +47,5 @@ impl Record for Point {
 
     fn key(&self) -> u16 {
         self.term
-    }
-}
-
-impl Point {
-    pub fn new(term: u16, rate: Rate) -> Point
-        ensures at { result.term ≡ term }
-        ensures has { result.rate ≡ rate }
-    {
-        Point { term, rate }
     }
 }

@@ -1,7 +1,7 @@
 //! The sloping curve.
 ghost use Rattle.std.specs.Prelude.{◌≡◌, ◌<◌, pos, negsuc, ◌*ℤ◌, ◌≤ℤ◌};
 ghost use Rattle.quantities.specs.Rounding.{round_down_signed};
-ghost use Rattle.curve.specs.Points.{reach_of, between, sloping_rate};
+ghost use Rattle.curve.specs.Points.{reach_of, rate_between, sloping_rate};
 ghost use Rattle.curve.specs.Discounted.{slopes_discounting};
 
 use crate::Curve;
@@ -23,7 +23,7 @@ fn risen(rise: i32, ahead: u16, span: u16) -> i32
 // The rate at a term between two neighbours, rounded down.
 fn rate_between(previous: Point, next: Point, term: u16) -> Rate
     requires { (previous.term < term) × (term < next.term) }
-    ensures { result.basis_points ≡ between previous next term }
+    ensures { result.basis_points ≡ rate_between previous next term }
 {
     let start = i32::from(previous.rate.basis_points);
     let rise = i32::from(next.rate.basis_points) - start;
@@ -33,7 +33,8 @@ fn rate_between(previous: Point, next: Point, term: u16) -> Rate
     }
 }
 
-/// Answers a point's rate at its term, the first rate below the first point, and the slope between neighbours.
+/// Answers a point's rate at its term, the first rate below the first point, and the slope between
+/// neighbours.
 #[derive(Clone, Copy)]
 pub struct SlopingCurve<'p, 'a> {
     pub points: &'p Points<'a>,

@@ -1,1 +1,4 @@
+pub mod Trades
+pub mod SampleAccounts
+pub mod WorkedFigures
 pub mod Figures

@@ -1,20 +1,21 @@
 //! A day of two accounts: each is worked call by call, then both are put together.
+use crate::report::show_refusal;
+use account::block::Block;
 use account::by_isin::ByIsin;
 use account::call::{Answer, Call, LineRefusal, Margin, Reply};
-use account::line::{Block, Line, Side};
-use book::work::{Ledger, ThreeMargins, work_three_books};
+use account::line::{Line, Side};
+use book::journal::{Journal, ThreeMargins, work_three_books};
 use curve::point::Point;
 use curve::point::points::Points;
 use curve::step::StepCurve;
 use market::day::Day;
 use market::market::Market;
-use market::price::{Percentage, Price};
+use market::percentage::Percentage;
+use market::price::Price;
 use netting::Net;
 use quantities::date::Date;
 use quantities::isin::Isin;
-use quantities::range::Rate;
 use quantities::refusal::Refusal;
-use specimen::report::show_refusal;
 use std::io;
 use valuation::setup::Setup;
 
@@ -39,43 +40,23 @@ fn enter(side: Side, reference: u32, isin: Isin, titles: u32, cash: u64, block: 
     })
 }
 
-// The third line comes too late to be taken.
+fn buy(reference: u32, isin: Isin, titles: u32, cash: u64, block: Block) -> Call {
+    enter(Side::Bought, reference, isin, titles, cash, block)
+}
+
+fn sell(reference: u32, isin: Isin, titles: u32, cash: u64, block: Block) -> Call {
+    enter(Side::Sold, reference, isin, titles, cash, block)
+}
+
+// The third line is refused for its date.
 fn first_calls() -> [Call; 7] {
     [
-        enter(
-            Side::Bought,
-            1,
-            LONG_BOND,
-            1_000,
-            101_000_000,
-            Block::Trade(9_101),
-        ),
-        enter(
-            Side::Sold,
-            2,
-            LONG_BOND,
-            400,
-            40_400_000,
-            Block::Trade(9_001),
-        ),
-        enter(
-            Side::Bought,
-            3,
-            LONG_BOND,
-            50,
-            5_000_000,
-            Block::Trade(9_366),
-        ),
+        buy(1, LONG_BOND, 1_000, 101_000_000, Block::Trade(9_101)),
+        sell(2, LONG_BOND, 400, 40_400_000, Block::Trade(9_001)),
+        buy(3, LONG_BOND, 50, 5_000_000, Block::Trade(9_366)),
         Call::AskMargin,
-        enter(
-            Side::Bought,
-            3,
-            SHORT_BOND,
-            3,
-            300_000,
-            Block::Failed(8_998),
-        ),
-        enter(Side::Bought, 4, LONG_BOND, 0, 2_500, Block::CashOnly(9_000)),
+        buy(3, SHORT_BOND, 3, 300_000, Block::Failed(8_998)),
+        buy(4, LONG_BOND, 0, 2_500, Block::CashOnly(9_000)),
         Call::AskMargin,
     ]
 }
@@ -83,66 +64,24 @@ fn first_calls() -> [Call; 7] {
 // The second line is entered by mistake and taken out again.
 fn second_calls() -> [Call; 6] {
     [
-        enter(
-            Side::Sold,
-            1,
-            LONG_BOND,
-            700,
-            70_700_000,
-            Block::Trade(9_101),
-        ),
-        enter(Side::Bought, 2, SHORT_BOND, 5_000, 1, Block::Held(9_000)),
+        sell(1, LONG_BOND, 700, 70_700_000, Block::Trade(9_101)),
+        buy(2, SHORT_BOND, 5_000, 1, Block::Held(9_000)),
         Call::AskMargin,
         Call::Withdraw(2),
         Call::Withdraw(2),
-        enter(Side::Bought, 3, SHORT_BOND, 7, 700_000, Block::Held(9_000)),
+        buy(3, SHORT_BOND, 7, 700_000, Block::Held(9_000)),
     ]
 }
 
 // The lines that stand in the two accounts, under references of their own.
 fn joint_calls() -> [Call; 6] {
     [
-        enter(
-            Side::Bought,
-            11,
-            LONG_BOND,
-            1_000,
-            101_000_000,
-            Block::Trade(9_101),
-        ),
-        enter(
-            Side::Sold,
-            12,
-            LONG_BOND,
-            400,
-            40_400_000,
-            Block::Trade(9_001),
-        ),
-        enter(
-            Side::Bought,
-            13,
-            SHORT_BOND,
-            3,
-            300_000,
-            Block::Failed(8_998),
-        ),
-        enter(
-            Side::Bought,
-            14,
-            LONG_BOND,
-            0,
-            2_500,
-            Block::CashOnly(9_000),
-        ),
-        enter(
-            Side::Sold,
-            21,
-            LONG_BOND,
-            700,
-            70_700_000,
-            Block::Trade(9_101),
-        ),
-        enter(Side::Bought, 22, SHORT_BOND, 7, 700_000, Block::Held(9_000)),
+        buy(11, LONG_BOND, 1_000, 101_000_000, Block::Trade(9_101)),
+        sell(12, LONG_BOND, 400, 40_400_000, Block::Trade(9_001)),
+        buy(13, SHORT_BOND, 3, 300_000, Block::Failed(8_998)),
+        buy(14, LONG_BOND, 0, 2_500, Block::CashOnly(9_000)),
+        sell(21, LONG_BOND, 700, 70_700_000, Block::Trade(9_101)),
+        buy(22, SHORT_BOND, 7, 700_000, Block::Held(9_000)),
     ]
 }
 
@@ -154,8 +93,8 @@ fn show_call(rt: &impl Print, call: Call, answer: Answer) -> io::Result<()> {
     }
 }
 
-// A margin, with the bounds in which the exact margin lies: one cent for each rounded amount below it.
-// No Display: the name and the bounds are of this line, and no part of a margin.
+// A margin, with the bounds in which the exact margin lies: one cent for each rounded amount below
+// it. No Display: the name and the bounds are of this line, and no part of a margin.
 fn show_margin(rt: &impl Print, name: &str, margin: Result<Margin, LineRefusal>) -> io::Result<()> {
     match margin {
         Ok(
@@ -186,8 +125,7 @@ fn show_calls(rt: &impl Print, title: &str, calls: &[Call], answers: &[Answer]) 
     Ok(())
 }
 
-fn work_on(rt: &impl Print, market: &Market<'_>, points: &Points<'_>) -> io::Result<()> {
-    let curve = StepCurve { points };
+fn work_on(rt: &impl Print, setup: &Setup<'_, '_, StepCurve<'_, '_>, Net>) -> io::Result<()> {
     let first = first_calls();
     let second = second_calls();
     let joint = joint_calls();
@@ -195,36 +133,25 @@ fn work_on(rt: &impl Print, market: &Market<'_>, points: &Points<'_>) -> io::Res
     let mut first_answers = [accepted; 7];
     let mut second_answers = [accepted; 6];
     let mut joint_answers = [accepted; 6];
-    let mut first_places = [Line::default(); 8];
-    let mut first_by_isin = [ByIsin::default(); 8];
-    let mut second_places = [Line::default(); 8];
-    let mut second_by_isin = [ByIsin::default(); 8];
-    let mut joint_places = [Line::default(); 8];
-    let mut joint_by_isin = [ByIsin::default(); 8];
-    let setup = Setup {
-        market,
-        curve: &curve,
-        rule: &Net,
-    };
     let margins = work_three_books(
-        &setup,
-        &mut Ledger {
+        setup,
+        &mut Journal {
             calls: &first,
             answers: &mut first_answers,
-            places: &mut first_places,
-            by_isin: &mut first_by_isin,
+            places: &mut [Line::default(); 8],
+            by_isin: &mut [ByIsin::default(); 8],
         },
-        &mut Ledger {
+        &mut Journal {
             calls: &second,
             answers: &mut second_answers,
-            places: &mut second_places,
-            by_isin: &mut second_by_isin,
+            places: &mut [Line::default(); 8],
+            by_isin: &mut [ByIsin::default(); 8],
         },
-        &mut Ledger {
+        &mut Journal {
             calls: &joint,
             answers: &mut joint_answers,
-            places: &mut joint_places,
-            by_isin: &mut joint_by_isin,
+            places: &mut [Line::default(); 8],
+            by_isin: &mut [ByIsin::default(); 8],
         },
     );
     show_calls(rt, "The first account", &first, &first_answers)?;
@@ -234,15 +161,15 @@ fn work_on(rt: &impl Print, market: &Market<'_>, points: &Points<'_>) -> io::Res
 }
 
 fn fill(market: &mut Market<'_>, points: &mut Points<'_>) -> Result<(), Refusal> {
-    market.add_price(LONG_BOND, 1_010_000, 11_000)?;
-    market.add_price(SHORT_BOND, 999_999, 9_100)?;
-    market.add_percentage(1, 50)?;
-    market.add_percentage(4, 200)?;
-    points.add(364, 360)
+    market.add_price(Price::new(LONG_BOND, 1_010_000, 11_000)?)?;
+    market.add_price(Price::new(SHORT_BOND, 999_999, 9_100)?)?;
+    market.add_percentage(Percentage::new(1, 50)?)?;
+    market.add_percentage(Percentage::new(4, 200)?)?;
+    points.add(Point::new(364, 360)?)
 }
 
 /// Prints each call of the day with its answer, then the margins.
-pub fn show_day(rt: &impl Print) -> io::Result<()> {
+pub(crate) fn show_day(rt: &impl Print) -> io::Result<()> {
     let day = Day {
         today: TODAY,
         next: TODAY + 1,
@@ -250,10 +177,17 @@ pub fn show_day(rt: &impl Print) -> io::Result<()> {
     let mut prices = [Price::default(); 2];
     let mut percentages = [Percentage::default(); 6];
     let mut market = Market::new(day, &mut prices, &mut percentages);
-    let mut places = [Point::new(0, Rate { basis_points: 0 }); 1];
+    let mut places = [Point::default(); 1];
     let mut points = Points::new(&mut places);
     match fill(&mut market, &mut points) {
-        Ok(()) => work_on(rt, &market, &points),
+        Ok(()) => work_on(
+            rt,
+            &Setup {
+                market: &market,
+                curve: &StepCurve { points: &points },
+                rule: &Net,
+            },
+        ),
         Err(refusal) => show_refusal(rt, "market", refusal),
     }
 }

@@ -1,4 +1,4 @@
-//! A refusal in words, for who has to mend the sheets.
+//! A refusal in words, for whoever has to correct the sheets.
 use crate::spot::{Sheet, Spot, cell_at, count_cells, count_named};
 use crate::words::{misfit, turned_away};
 use quantities::refusal::Refusal;
@@ -14,7 +14,7 @@ pub struct Explanation<'a> {
     pub refusal: RunRefusal,
 }
 
-// A needed name that does not stand just once, and how often it stands.
+// The first needed name that does not stand exactly once, and how often it stands.
 fn misnamed(spot: &Spot<'_>) -> Option<(&'static [u8], usize)> {
     let names = spot.cells();
     spot.sheet
@@ -24,7 +24,7 @@ fn misnamed(spot: &Spot<'_>) -> Option<(&'static [u8], usize)> {
         .find(|(_, times)| *times != 1)
 }
 
-// A cell as text; a cell of other bytes is not repeated.
+// A cell as text; a question mark for a cell whose bytes are no text.
 fn shown(cell: &[u8]) -> &str {
     str::from_utf8(cell).unwrap_or("?")
 }

@@ -22,7 +22,7 @@ usage: margin < RUN
 
 RUN is five sheets of text, one behind the other: the day (DAY), the margin percentages (PAR), the
 points of the curve (CRV), the prices (PRC) and the positions (POS), in at most 65,536 bytes. Columns
-are found by their names and may stand in any order; docs/FORMATS.md tells every one of them.
+are found by their names and may stand in any order; docs/FORMATS.md lists every one of them.
 
 On standard output stands the statement: a row for each ISIN and block, the margin in cents with the
 count of its rounded amounts, and the count of rows. Where the run is refused, it is one line,
@@ -32,7 +32,7 @@ count of its rounded amounts, and the count of rows. Where the run is refused, i
 and standard error says in words what was refused, and where. Both are answers, and end with status 0.
 Status 1 says that reading or writing failed, and 2 that margin was called with other words.";
 
-// A statement has a row for each position at most, and four other lines; none has more than 64 bytes.
+// A statement has at most a row for each position, and four other lines, each of at most 64 bytes.
 const MOST_STATEMENT: usize = (MOST_LINES + 4) * 64;
 
 // What the words of the command ask for.
@@ -53,7 +53,7 @@ fn read_request(rt: &HostRuntime) -> io::Result<Request> {
     })
 }
 
-// At most one byte more than a run may have: it suffices to see that there are too many.
+// Reads one byte more than a run may have at most, which shows that a longer input has too many.
 fn read_run(rt: &HostRuntime) -> io::Result<Vec<u8>> {
     let mut sheets = Vec::new(rt.alloc());
     let mut input = rt.stdin().take(MOST_BYTES as u64 + 1);

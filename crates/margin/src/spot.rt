@@ -1,9 +1,9 @@
 //! Where a line of a run stands.
-use rows::day::Days;
-use rows::percentage::Percentages;
-use rows::point::Points;
-use rows::position::Positions;
-use rows::price::Prices;
+use rows::day::DayRows;
+use rows::percentage::PercentageRows;
+use rows::point::PointRows;
+use rows::position::PositionRows;
+use rows::price::PriceRows;
 use sheet::kind::RowKind;
 use std::{fmt, iter};
 use text::number::number;
@@ -30,29 +30,29 @@ impl Sheet {
     }
 
     /// The mark of its first line.
-    pub fn mark(self) -> [u8; 3] {
+    pub(crate) fn mark(self) -> [u8; 3] {
         match self {
-            Sheet::Day => Days::MARK,
-            Sheet::Percentages => Percentages::MARK,
-            Sheet::Curve => Points::MARK,
-            Sheet::Prices => Prices::MARK,
-            Sheet::Positions => Positions::MARK,
+            Sheet::Day => DayRows::MARK,
+            Sheet::Percentages => PercentageRows::MARK,
+            Sheet::Curve => PointRows::MARK,
+            Sheet::Prices => PriceRows::MARK,
+            Sheet::Positions => PositionRows::MARK,
         }
     }
 
     /// The names that its second line needs.
-    pub fn needed(self) -> &'static [&'static [u8]] {
+    pub(crate) fn needed(self) -> &'static [&'static [u8]] {
         match self {
-            Sheet::Day => Days::NAMES,
-            Sheet::Percentages => Percentages::NAMES,
-            Sheet::Curve => Points::NAMES,
-            Sheet::Prices => Prices::NAMES,
-            Sheet::Positions => Positions::NAMES,
+            Sheet::Day => DayRows::NAMES,
+            Sheet::Percentages => PercentageRows::NAMES,
+            Sheet::Curve => PointRows::NAMES,
+            Sheet::Prices => PriceRows::NAMES,
+            Sheet::Positions => PositionRows::NAMES,
         }
     }
 }
 
-/// What a treasurer calls the lines of the sheet.
+/// The word for its lines, as in `price line 16`.
 impl fmt::Display for Sheet {
     fn fmt<W: fmt::Write>(&self, f: &mut fmt::Formatter<W>) -> fmt::Result {
         f.write_str(match self {
@@ -81,7 +81,7 @@ pub struct Spot<'a> {
     pub sheet: Sheet,
     pub names: &'a [u8],
     pub rows: usize,
-    /// Its text with the line feed; nothing behind the last line.
+    /// Its text with the line feed; empty behind the last line.
     pub text: &'a [u8],
     part: Part,
 }
@@ -91,19 +91,19 @@ fn without_feed(text: &[u8]) -> &[u8] {
 }
 
 /// How many cells a line has.
-pub fn count_cells(line: &[u8]) -> usize {
+pub(crate) fn count_cells(line: &[u8]) -> usize {
     line.split(|byte| *byte == b';').count()
 }
 
-/// How many cells of a line are a name.
-pub fn count_named(line: &[u8], name: &[u8]) -> usize {
+/// How many cells of a line hold a name.
+pub(crate) fn count_named(line: &[u8], name: &[u8]) -> usize {
     line.split(|byte| *byte == b';')
         .filter(|cell| *cell == name)
         .count()
 }
 
 /// The cell of a number, counted from 1; empty where there is none.
-pub fn cell_at(line: &[u8], number: usize) -> &[u8] {
+pub(crate) fn cell_at(line: &[u8], number: usize) -> &[u8] {
     let mut cells = line.split(|byte| *byte == b';');
     match number.checked_sub(1) {
         Some(skipped) => cells.nth(skipped).unwrap_or_default(),
@@ -151,7 +151,7 @@ impl<'a> Spot<'a> {
         }
     }
 
-    // The first line that is wanted, of those of the five sheets and the one after the last.
+    // The first line that is wanted, of those of the five sheets and the empty one behind them.
     fn find<F: Fn(&Spot<'a>) -> bool + Drop>(sheets: &'a [u8], wanted: F) -> Option<Spot<'a>>
         requires { F.IsAlwaysCallable wanted }
     {
@@ -168,12 +168,12 @@ impl<'a> Spot<'a> {
     }
 
     /// The line of a number; none behind the fifth sheet.
-    pub fn at(sheets: &'a [u8], line: usize) -> Option<Spot<'a>> {
+    pub(crate) fn at(sheets: &'a [u8], line: usize) -> Option<Spot<'a>> {
         Spot::find(sheets, |spot| spot.line == line)
     }
 
     /// The position of a reference.
-    pub fn of_reference(sheets: &'a [u8], reference: u32) -> Option<Spot<'a>> {
+    pub(crate) fn of_reference(sheets: &'a [u8], reference: u32) -> Option<Spot<'a>> {
         let reference = u64::from(reference);
         Spot::find(sheets, |spot| {
             spot.sheet == Sheet::Positions
@@ -181,13 +181,13 @@ impl<'a> Spot<'a> {
         })
     }
 
-    /// Its cells, parted by semicolons.
-    pub fn cells(&self) -> &'a [u8] {
+    /// Its cells, separated by semicolons.
+    pub(crate) fn cells(&self) -> &'a [u8] {
         without_feed(self.text)
     }
 
     /// The cell under a name; empty where there is none.
-    pub fn under(&self, name: &[u8]) -> &'a [u8] {
+    pub(crate) fn under(&self, name: &[u8]) -> &'a [u8] {
         let mut names = self.names.split(|byte| *byte == b';');
         match names.position(|column| column == name) {
             Some(place) => cell_at(self.cells(), place.saturating_add(1)),
@@ -196,7 +196,7 @@ impl<'a> Spot<'a> {
     }
 }
 
-/// Its sheet and its number.
+/// Its sheet and its number, as in `price line 16`.
 impl<'a> fmt::Display for Spot<'a> {
     fn fmt<W: fmt::Write>(&self, f: &mut fmt::Formatter<W>) -> fmt::Result {
         let sheet = self.sheet;

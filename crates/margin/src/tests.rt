@@ -68,7 +68,7 @@ fn a_buffer_has_room_from_the_length_on(rt: HostRuntime) {
 }
 
 #[test]
-fn each_refusal_is_told_with_its_place(rt: HostRuntime) -> Result<(), Fail> {
+fn each_refusal_has_its_numbers_and_words(rt: HostRuntime) -> Result<(), Fail> {
     for Edit {
         old,
         new,
@@ -81,9 +81,9 @@ fn each_refusal_is_told_with_its_place(rt: HostRuntime) -> Result<(), Fail> {
             sheets: sheets.as_bytes(),
             refusal,
         };
-        let told = format!(in rt.alloc(); "{refusal}")?;
+        let printed = format!(in rt.alloc(); "{refusal}")?;
         let explained = format!(in rt.alloc(); "{explanation}")?;
-        assert_eq!(rt; told.as_str(), refused);
+        assert_eq!(rt; printed.as_str(), refused);
         assert_eq!(rt; explained.as_str(), words);
     }
     Ok(())

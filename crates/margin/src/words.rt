@@ -2,8 +2,8 @@
 use crate::spot::{Sheet, Spot};
 use quantities::refusal::Refusal;
 
-/// What the cell under a name is not, beside the cell under `BLOCK`.
-pub fn misfit(name: &[u8], block: &[u8]) -> &'static str {
+/// What the cell under a name should be and is not; for titles it depends on the cell under `BLOCK`.
+pub(crate) fn misfit(name: &[u8], block: &[u8]) -> &'static str {
     match name {
         b"TODAY" | b"NEXT" | b"MATURITY" | b"DATE" => "not a day number from 0 to 65,535",
         b"MODE" => "neither N for the net rule nor G for the gross rule",
@@ -60,7 +60,7 @@ fn wrong_day(spot: &Spot<'_>) -> &'static str {
 }
 
 /// Why the book does not take the row of a spot.
-pub fn turned_away(spot: &Spot<'_>, refusal: Refusal) -> &'static str {
+pub(crate) fn turned_away(spot: &Spot<'_>, refusal: Refusal) -> &'static str {
     match refusal {
         Refusal::KeyPresent => key_taken(spot.sheet),
         Refusal::Date => wrong_day(spot),

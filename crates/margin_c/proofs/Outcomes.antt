@@ -1,11 +1,11 @@
 -- What a run comes to, by its answer.
-use Rattle.std.proofs.Common.{◌≡◌, ℕ, ◌+◌, ◌≤◌, List, ◌++◌, length, drop, Ok, Err, refl, sym, ap, arith}
+use Rattle.std.proofs.Common.{◌≡◌, ℕ, ◌≤◌, List, ◌++◌, length, drop, Ok, Err, refl, sym, ap, arith}
 use Rattle.std.proofs.lemmas.List.{length-append}
 use Rattle.run.specs.declared.refusal.RunRefusal.{RunRefusal}
-use Rattle.run.specs.Refusals.{Outcome, told_refusal}
-use Rattle.run.specs.Answers.{Ran}
+use Rattle.run.specs.Refusals.{Outcome, placed_refusal}
+use Rattle.run.specs.Answers.{WritesText}
 
-pub refused_is : (o : Outcome (List ℕ)) (e : RunRefusal) (before after : List ℕ) → Ran o (Err e) before after → o ≡ Err (told_refusal e)
+pub refused_is : (o : Outcome (List ℕ)) (e : RunRefusal) (before after : List ℕ) → WritesText o (Err e) before after → o ≡ Err (placed_refusal e)
 refused_is (Ok text) e before after h = absurd h
 refused_is (Err r) e before after h = ap Err (sym h.0)
 
@@ -16,7 +16,7 @@ pub record Given (o : Outcome (List ℕ)) (n : ℕ) (before after : List ℕ) : 
   pub count : n ≡ length text
   pub buffer : after ≡ text ++ drop (length text) before
 
-pub given_is : (o : Outcome (List ℕ)) (n : ℕ) (before after : List ℕ) → Ran o (Ok n) before after → Given o n before after
+pub given_is : (o : Outcome (List ℕ)) (n : ℕ) (before after : List ℕ) → WritesText o (Ok n) before after → Given o n before after
 given_is (Ok text) n before after h = record { text = text; text_is = refl; count = h.0; buffer = h.1 }
 given_is (Err r) n before after h = absurd h
 

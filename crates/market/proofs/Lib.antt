@@ -1,2 +1,3 @@
-pub mod Added
+pub mod Parts
+pub mod Put
 mod Room

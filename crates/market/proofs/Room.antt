@@ -1,11 +1,14 @@
 -- Ranks that ascend within limits leave room for one that is absent.
-use Rattle.std.proofs.Common.{◌≡◌, ℕ, suc, ◌+◌, ◌<◌, ◌≤◌, true, false, eqb, List, [], ◌∷◌, length, get_or, ⊎_elim, arith}
-use Rattle.std.proofs.lemmas.Bool.{cases_lt, cases_Bool, true≢false, eqb-false}
+use Rattle.std.proofs.Common.{◌≡◌, ℕ, suc, ◌+◌, ◌<◌, ◌≤◌, Bool, true, false, cond, eqb, ltb, List, [], ◌∷◌, length, get_or, ⊎_elim, Ok, Err, Result, refl, sym, ◌∙◌, arith}
+use Rattle.std.proofs.lemmas.Bool.{cases_lt, cases_Bool, true≢false, eqb-false, lt-ltb}
+use Rattle.quantities.specs.declared.refusal.Refusal.{Refusal}
+use Rattle.quantities.specs.declared.refusal.Refusal.TheVariants.{KeyPresent, Full}
 use Rattle.quantities.specs.declared.tranche.Tranche.{Tranche}
 use Rattle.quantities.specs.declared.tranche.Tranche.TheVariants.{UpToOneYear, UpToThreeYears, UpToFiveYears, UpToTenYears, UpToTwentyYears, OverTwentyYears}
 use Rattle.quantities.specs.Tranches.{tranche_number}
+use Rattle.register.specs.Changes.{insert_answer}
 use Rattle.register.specs.Keys.{Ascends, has_rank}
-use Rattle.market.specs.declared.price.Percentage.{Percentage}
+use Rattle.market.specs.declared.percentage.Percentage.{Percentage}
 use Rattle.market.specs.Records.{percentage_rank}
 
 module _ {X : Type 0} (f : X → ℕ) where
@@ -54,8 +57,15 @@ six UpToTwentyYears = (omega arith, omega arith)
 six OverTwentyYears = (omega arith, omega arith)
 
 -- six places suffice for the percentages of six tranches
-pub place_free : (room k : ℕ) (p : Percentage) (xs : List Percentage) → room ≡ 6 → percentage_rank p ≡ k → Ascends percentage_rank xs → has_rank percentage_rank k xs ≡ false → length xs < room
+place_free : (room k : ℕ) (p : Percentage) (xs : List Percentage) → room ≡ 6 → percentage_rank p ≡ k → Ascends percentage_rank xs → has_rank percentage_rank k xs ≡ false → length xs < room
 place_free room k p xs e r up absent =
     let b = six p.tranche in
     let n = one_fewer percentage_rank 6 (λ q. (six q.tranche).1) xs 1 k (omega arith) (omega arith) up (λ d _. (six (get_or xs 0 d).tranche).0) absent in
     omega arith
+
+pub not_full : (room : ℕ) (p : Percentage) (xs : List Percentage) (a : Result (Unit {0}) Refusal) → room ≡ 6 → Ascends percentage_rank xs → a ≡ insert_answer percentage_rank room p xs → a ≡ Err Full → ⊥
+not_full room p xs a six up is full = go (has_rank percentage_rank (percentage_rank p) xs) refl (sym full ∙ is)
+  where
+    go : (present : Bool) → has_rank percentage_rank (percentage_rank p) xs ≡ present → ◌≡◌ {A = Result (Unit {0}) Refusal} (Err Full) (cond present (Err KeyPresent) (cond (ltb (length xs) room) (Ok tt) (Err Full))) → ⊥
+    go true e h = cc
+    go false e h = let free = lt-ltb (length xs) room (place_free room (percentage_rank p) p xs six refl up e) in (let z = rw free at h in cc)

@@ -5,10 +5,11 @@ use Rattle.quantities.specs.declared.range.MarginPercentage.{MarginPercentage}
 use Rattle.quantities.specs.Tranches.{tranche}
 use Rattle.register.specs.Keys.{found_by}
 use Rattle.market.specs.declared.price.Price.{Price}
-use Rattle.market.specs.declared.price.Percentage.{Percentage}
+use Rattle.market.specs.declared.percentage.Percentage.{Percentage}
 use Rattle.market.specs.Records.{percentage_rank}
 
--- today and the business day after it, its prices by ISIN and its percentages by tranche, and how many prices it can hold
+-- today and the business day after it, its prices by ISIN and its percentages by tranche, and how
+-- many prices it can hold
 pub record Quotes : Type 0 where
   pub today : ℕ
   pub next : ℕ
@@ -18,4 +19,5 @@ pub record Quotes : Type 0 where
 
 -- the percentage for a residual life in days: that of its tranche
 abbrev pub percentage_for : ℕ → List Percentage → Option MarginPercentage
-percentage_for life percentages = option_map (λ p. p.percentage) (found_by percentage_rank (tranche life) percentages)
+percentage_for life percentages =
+    option_map (λ p. p.percentage) (found_by percentage_rank (tranche life) percentages)

@@ -1,4 +1,3 @@
 pub mod Days
 pub mod Records
 pub mod Contents
-pub mod Changes

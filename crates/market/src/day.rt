@@ -1,7 +1,7 @@
 //! The day of a margin.
 ghost use Rattle.std.specs.Prelude.{◌≡◌, ◌+◌, ◌≤◌};
 ghost use Rattle.market.specs.Days.{day_answer};
-ghost use Rattle.quantities.specs.Checked.{told};
+ghost use Rattle.quantities.specs.RangeChecks.{numbers_of};
 
 use quantities::date::Date;
 use quantities::refusal::Refusal;
@@ -21,7 +21,7 @@ impl Day {
 
     /// The day with those dates; refuses a next business day that is not 1 to 10 days after today.
     pub fn new(today: Date, next: Date) -> Result<Day, Refusal>
-        ensures { told (λ day. (day.today, day.next)) result ≡ day_answer today next }
+        ensures { numbers_of (λ day. (day.today, day.next)) result ≡ day_answer today next }
     {
         match next {
             early if early <= today => Err(Refusal::Date),

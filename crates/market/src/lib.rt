@@ -3,6 +3,7 @@
 
 pub mod day;
 pub mod market;
+pub mod percentage;
 pub mod price;
 #[cfg(test)]
 mod tests;

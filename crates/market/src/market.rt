@@ -1,14 +1,15 @@
 //! A day with its prices and margin percentages, in lent memory.
-ghost use Rattle.std.specs.Prelude.{◌≡◌, ◌≤◌, true, [], length};
-ghost use Rattle.market.specs.Changes.{AddsPrice, AddsPercentage};
+ghost use Rattle.std.specs.Prelude.{◌≡◌, ◌≢◌, ◌≤◌, IsTrue, Err, [], length};
 ghost use Rattle.market.specs.Contents.{percentage_for};
 ghost use Rattle.market.specs.Days.{is_next_day};
 ghost use Rattle.market.specs.Records.{isin_rank, price_rank, percentage_rank};
+ghost use Rattle.register.specs.Changes.{insert_answer, insert_after};
 ghost use Rattle.register.specs.Contents.{room_in};
 ghost use Rattle.register.specs.Keys.{Ascends, found_by};
 
 use crate::day::Day;
-use crate::price::{Percentage, Price};
+use crate::percentage::Percentage;
+use crate::price::Price;
 use quantities::date::Date;
 use quantities::isin::Isin;
 use quantities::range::MarginPercentage;
@@ -32,7 +33,13 @@ impl<'a> Model for Market<'a> {
 
     ghost Value = { Quotes };
 
-    ghost view = { λ m. record { today = m.day.today; next = m.day.next; prices = m.prices.records; percentages = m.percentages.records; room = m.prices.room } };
+    ghost view = { λ m. record {
+      today = m.day.today;
+      next = m.day.next;
+      prices = m.prices.records;
+      percentages = m.percentages.records;
+      room = m.prices.room;
+    } };
 
     ghost invariant = { λ m. m.percentages.room ≡ 6 };
 }
@@ -65,7 +72,7 @@ impl<'a> Market<'a> {
     /// The business day after today.
     pub fn next(&self) -> Date
         ensures is { result ≡ self.now.next }
-        ensures after { is_next_day self.now.today self.now.next ≡ true }
+        ensures after { IsTrue (is_next_day self.now.today self.now.next) }
     {
         self.day.next
     }
@@ -89,21 +96,24 @@ impl<'a> Market<'a> {
         self.percentages.records()
     }
 
-    /// Puts a price in by its ISIN; refuses one that does not fit, then an ISIN that has a price, then one without a place.
-    pub fn add_price(&mut self, isin: Isin, price: u32, maturity: Date) -> Result<(), Refusal>
-        ensures change { AddsPrice self.old.room isin price maturity self.old.prices result self.new.prices }
-        ensures others { self.new ≡ record self.old { prices = self.new.prices } }
+    /// Puts a price in by its ISIN; refuses an ISIN that has a price, then one without a place.
+    pub fn add_price(&mut self, price: Price) -> Result<(), Refusal>
+        ensures answer { result ≡ insert_answer price_rank self.old.room price self.old.prices }
+        ensures after { self.new ≡ record self.old {
+          prices = insert_after price_rank self.old.room price self.old.prices;
+        } }
     {
-        let price = Price::new(isin, price, maturity)?;
         self.prices.insert(price)
     }
 
-    /// Puts a percentage in by its tranche; refuses one that does not fit, then a tranche that has one.
-    pub fn add_percentage(&mut self, tranche: u8, percentage: u16) -> Result<(), Refusal>
-        ensures change { AddsPercentage tranche percentage self.old.percentages result self.new.percentages }
-        ensures others { self.new ≡ record self.old { percentages = self.new.percentages } }
+    /// Puts a percentage in by its tranche; refuses a tranche that has one. A place is always free.
+    pub fn add_percentage(&mut self, percentage: Percentage) -> Result<(), Refusal>
+        ensures answer { result ≡ insert_answer percentage_rank 6 percentage self.old.percentages }
+        ensures after { self.new ≡ record self.old {
+          percentages = insert_after percentage_rank 6 percentage self.old.percentages;
+        } }
+        ensures never_full { result ≢ Err Refusal.Full }
     {
-        let percentage = Percentage::new(tranche, percentage)?;
         self.percentages.insert(percentage)
     }
 

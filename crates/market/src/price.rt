@@ -1,28 +1,29 @@
-//! Prices and margin percentages, the records of a market.
-ghost use Rattle.market.specs.Records.{price_fits, percentage_fits, price_parts, percentage_parts, fitted};
-ghost use Rattle.quantities.specs.Checked.{told};
-ghost use Rattle.quantities.specs.Tranches.{tranche_number};
-ghost use Rattle.std.specs.Prelude.{◌≡◌};
+//! The price of a bond, a record of a market.
+ghost use Rattle.quantities.specs.RangeChecks.{numbers_of};
+ghost use Rattle.quantities.specs.Isins.{is_isin};
+ghost use Rattle.std.specs.Prelude.{◌≡◌, IsTrue};
 
 use quantities::date::Date;
 use quantities::isin::Isin;
-use quantities::range::{MarginPercentage, UnitPrice};
+use quantities::range::UnitPrice;
 use quantities::refusal::Refusal;
-use quantities::tranche::Tranche;
 use register::record::Record;
 
 /// The price of a bond, and the day on which it is repaid.
-#[derive(Clone, Copy, PartialEq, Eq)]
+#[derive(Clone, Copy, Debug, PartialEq, Eq)]
 pub struct Price {
     pub isin: Isin,
     pub price: UnitPrice,
     pub maturity: Date,
+    ghost valid: { IsTrue (is_isin isin.bytes) },
 }
 
 impl Price {
+    ghost use Rattle.market.specs.Records.{price_answer, price_parts};
+
     /// The price of a bond; refuses what is no ISIN, and a price out of its range.
     pub fn new(isin: Isin, price: u32, maturity: Date) -> Result<Price, Refusal>
-        ensures { told price_parts result ≡ fitted (price_fits isin price) (isin, price, maturity) }
+        ensures { numbers_of price_parts result ≡ price_answer isin price maturity }
     {
         if !isin.is_valid() {
             return Err(Refusal::Value);
@@ -36,11 +37,13 @@ impl Price {
     }
 }
 
-/// What a free place may hold.
+/// What a free place may hold: the lowest price, of an ISIN that stands for no bond.
 impl Default for Price {
     fn default() -> Price {
         Price {
-            isin: Isin { bytes: [0; 12] },
+            isin: Isin {
+                bytes: *b"XX0000000002",
+            },
             price: UnitPrice {
                 millionths: UnitPrice::LOWEST,
             },
@@ -57,47 +60,5 @@ impl Record for Price {
 
     fn key(&self) -> [u8; 12] {
         self.isin.bytes
-    }
-}
-
-/// The margin percentage of a tranche.
-#[derive(Clone, Copy, PartialEq, Eq)]
-pub struct Percentage {
-    pub tranche: Tranche,
-    pub percentage: MarginPercentage,
-}
-
-impl Percentage {
-    /// The percentage of a tranche; refuses what is no tranche's number, and a percentage out of its range.
-    pub fn new(tranche: u8, percentage: u16) -> Result<Percentage, Refusal>
-        ensures { told percentage_parts result ≡ fitted (percentage_fits tranche percentage) (tranche, percentage) }
-    {
-        let tranche = Tranche::try_from(tranche)?;
-        let percentage = MarginPercentage::try_from(percentage)?;
-        Ok(Percentage {
-            tranche,
-            percentage,
-        })
-    }
-}
-
-/// What a free place may hold.
-impl Default for Percentage {
-    fn default() -> Percentage {
-        Percentage {
-            tranche: Tranche::UpToOneYear,
-            percentage: MarginPercentage { basis_points: 0 },
-        }
-    }
-}
-
-/// Percentages go by the number of their tranche.
-impl Record for Percentage {
-    type Key = u8;
-
-    ghost key_of = { λ p. tranche_number p.tranche };
-
-    fn key(&self) -> u8 {
-        u8::from(self.tranche)
     }
 }

@@ -12,7 +12,8 @@ gross b s = max b s
 abbrev pub both_sides : ℕ → ℕ → ℕ
 both_sides b s = b + s
 
--- what every rule keeps to: the charge lies between |b − s| and b + s, and two positions added are charged at most what both are
+-- what every rule keeps to: the charge lies between |b − s| and b + s,
+-- and two positions added are charged at most what both are
 pub record Netting (charged : ℕ → ℕ → ℕ) : Type 0 where
   pub at_least : (b s : ℕ) → net b s ≤ charged b s
   pub at_most : (b s : ℕ) → charged b s ≤ b + s

@@ -1,61 +1,24 @@
-//! What entering a line and asking a margin cost, at three sizes of a book.
+//! What a book's calls and whole runs cost.
 #![tactic(auto)]
 
-use crate::timing::{Pace, time};
+use crate::report::{show_book_paces, show_run_paces};
 use std::{env, io};
 
+mod book_pace;
+mod book_sample;
+mod report;
+mod run_pace;
+mod run_sample;
 mod sample;
-mod timing;
 
-// Each size is sixteen times the one before it.
-const SIZES: [u32; 3] = [64, 1_024, 16_384];
-
-const USAGE: &str = "usage: pace now    times a book of 64, 1,024 and 16,384 lines";
-
-fn show_heading(rt: &impl Print) -> io::Result<()> {
-    println!(rt;
-        "   lines   microseconds a line   milliseconds a margin   ratios to the size before"
-    )
-}
-
-// Ratios are told from the second size on.
-fn show_pace(rt: &impl Print, pace: Pace, before: Option<Pace>) -> io::Result<()> {
-    let lines = pace.lines;
-    let line = pace.micros_a_line();
-    let margin = pace.millis_a_margin();
-    match before {
-        Some(before) => {
-            let line_ratio = line / before.micros_a_line();
-            let margin_ratio = margin / before.millis_a_margin();
-            println!(rt;
-                "{lines:>8}{line:>22.3}{margin:>24.3}   line {line_ratio:.1}, margin {margin_ratio:.1}"
-            )
-        }
-        None => println!(rt; "{lines:>8}{line:>22.3}{margin:>24.3}"),
-    }
-}
-
-fn show_paces(rt: &HostRuntime) -> io::Result<()> {
-    show_heading(rt)?;
-    let mut before = None;
-    for lines in SIZES {
-        match time(rt, lines)? {
-            Ok(pace) => {
-                show_pace(rt, pace, before)?;
-                before = Some(pace);
-            }
-            Err(refusal) => {
-                let number = refusal.number();
-                println!(rt; "{lines:>8}   refused {number}: {refusal}")?;
-            }
-        }
-    }
-    Ok(())
-}
+const USAGE: &str = "usage: pace book    times a book of 64, 1,024 and 16,384 lines
+       pace runs    times a run of 60 positions, and one at its limits";
 
 fn main(rt: HostRuntime) -> io::Result<()> {
-    if env::args(&rt)?.count() < 2 {
-        return println!(&rt; "{USAGE}");
+    let asked = env::args(&rt)?.nth(1);
+    match asked.as_ref().map(|word| word.as_str()) {
+        Some("book") => show_book_paces(&rt),
+        Some("runs") => show_run_paces(&rt),
+        _ => println!(&rt; "{USAGE}"),
     }
-    show_paces(&rt)
 }

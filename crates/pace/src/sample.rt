@@ -1,14 +1,11 @@
-//! The lines of a sample book: trades, three to an ISIN.
-use account::line::{Block, Line, Side};
+//! What the samples of a book and of a run share.
 use quantities::date::Date;
 use quantities::isin::Isin;
 
-pub const TODAY: Date = 9_000;
+pub(crate) const TODAY: Date = 9_000;
 
-pub const LINES_PER_ISIN: u32 = 3;
-
-// Odd, so that among a power of two of lines each reference comes once, and they come in no order.
-const STEP: u32 = 7_919;
+// A prime that divides no sample's number of lines.
+pub(crate) const STEP: u32 = 7_919;
 
 fn with_check(digits: [u8; 12], check: u8) -> Isin {
     let mut bytes = digits;
@@ -17,7 +14,7 @@ fn with_check(digits: [u8; 12], check: u8) -> Isin {
 }
 
 /// The ISIN of country XS whose nine digits are the number's last nine.
-pub fn sample_isin(number: u32) -> Isin {
+pub(crate) fn sample_isin(number: u32) -> Isin {
     let mut bytes = *b"XS0000000000";
     let mut rest = number;
     for digit in bytes[2..11].iter_mut().rev() {
@@ -31,19 +28,7 @@ pub fn sample_isin(number: u32) -> Isin {
         .unwrap_or(Isin { bytes })
 }
 
-/// The line of a place in a sample of so many lines, a power of two.
-pub fn sample_line(place: u32, lines: u32) -> Line {
-    let titles = 1 + place % 1_000;
-    Line {
-        reference: 1 + place.wrapping_mul(STEP).checked_rem(lines).unwrap_or(0),
-        isin: sample_isin(place / LINES_PER_ISIN),
-        side: if place % 2 == 0 {
-            Side::Bought
-        } else {
-            Side::Sold
-        },
-        titles,
-        cash: 100_000 * u64::from(titles),
-        block: Block::Trade(TODAY + (place % 366) as u16),
-    }
+/// The reference of a place among so many: each comes once, and they come in no order.
+pub(crate) fn sample_reference(place: u32, places: u32) -> u32 {
+    1 + place.wrapping_mul(STEP).checked_rem(places).unwrap_or(0)
 }

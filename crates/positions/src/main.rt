@@ -1,8 +1,9 @@
 //! Reads one sheet of positions, and prints the parts of each line as it is read.
 #![tactic(auto)]
 
-use account::line::{Block, Line, Side};
-use rows::position::Positions;
+use account::block::Block;
+use account::line::{Line, Side};
+use rows::position::PositionRows;
 use sheet::input::Input;
 use sheet::reading::Reading;
 use sheet::refusal::SheetRefusal;
@@ -56,7 +57,7 @@ fn show_line(out: &mut impl Write, line: &Line) -> io::Result<()> {
     )
 }
 
-fn show_rows(out: &mut impl Write, reading: &mut Reading<'_, Positions>) -> Result<(), Stop> {
+fn show_rows(out: &mut impl Write, reading: &mut Reading<'_, PositionRows>) -> Result<(), Stop> {
     while let Some(line) = reading.row()? {
         show_line(out, &line)?;
     }
@@ -65,7 +66,7 @@ fn show_rows(out: &mut impl Write, reading: &mut Reading<'_, Positions>) -> Resu
 
 // Prints each line of the sheet, and answers how many there are.
 fn show_sheet(out: &mut impl Write, sheet: &[u8]) -> Result<usize, Stop> {
-    let mut reading = Input::new(sheet).open::<Positions>()?;
+    let mut reading = Input::new(sheet).open::<PositionRows>()?;
     match show_rows(out, &mut reading) {
         Ok(()) => {
             let rows = reading.rows();

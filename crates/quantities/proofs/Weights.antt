@@ -6,11 +6,11 @@ use Rattle.std.proofs.lemmas.Bool.{and_parts}
 use Rattle.std.proofs.lemmas.List.FromFn.{get_or-map-range_with_len}
 use Rattle.std.proofs.lemmas.List.{drop_more, reverse-append, append-nil}
 use Rattle.std.proofs.lemmas.List.Concat.{flat_map-append}
-use Rattle.quantities.specs.Isins.{is_digit, written_out, second_doubled, digits_added, check_sum}
+use Rattle.quantities.specs.Isins.{is_digit, digits_of, with_seconds_doubled, digit_sum, check_sum}
 
 -- what numbers add where every second one is doubled, beginning with the first or with the second
 abbrev pub weights : Bool → List ℕ → ℕ
-weights doubled ns = digits_added (second_doubled (cond doubled (0 ∷ ns) ns))
+weights doubled ns = digit_sum (with_seconds_doubled (cond doubled (0 ∷ ns) ns))
 
 weights_more : (t : Bool) (n : ℕ) (ns : List ℕ) → weights t (n ∷ ns) ≡ weights t (n ∷ []) + weights (not t) ns
 weights_more true n ns = omega arith
@@ -27,7 +27,7 @@ two_more t n m ns =
 
 -- what is written out of a byte, from the right
 abbrev pub digits : ℕ → List ℕ
-digits b = reverse (written_out (b ∷ []))
+digits b = reverse (digits_of (b ∷ []))
 
 -- what is written out of bytes that stand from the right
 abbrev pub from_right : List ℕ → List ℕ
@@ -37,14 +37,14 @@ first_apart : (t : Bool) (u p q : ℕ) (w : List ℕ) → cond t (u ∷ w) (p �
 first_apart true u p q w = refl
 first_apart false u p q w = refl
 
-from_right-reverse : (bs : List ℕ) → from_right (reverse bs) ≡ reverse (written_out bs)
+from_right-reverse : (bs : List ℕ) → from_right (reverse bs) ≡ reverse (digits_of bs)
 from_right-reverse [] = refl
 from_right-reverse (b ∷ bs) =
     ap from_right (reverse-append (b ∷ []) bs)
     ∙ (flat_map-append digits (reverse bs) (b ∷ [])
     ∙ (ap (λ w. w ++ from_right (b ∷ [])) (from_right-reverse bs)
-    ∙ (ap (λ w. reverse (written_out bs) ++ w) (append-nil (digits b))
-    ∙ sym (ap reverse (first_apart (is_digit b) _ _ _ (written_out bs)) ∙ reverse-append (written_out (b ∷ [])) (written_out bs)))))
+    ∙ (ap (λ w. reverse (digits_of bs) ++ w) (append-nil (digits b))
+    ∙ sym (ap reverse (first_apart (is_digit b) _ _ _ (digits_of bs)) ∙ reverse-append (digits_of (b ∷ [])) (digits_of bs)))))
 
 pub all_counted : (bs : List ℕ) → weights false (from_right (reverse bs)) ≡ check_sum bs
 all_counted bs = ap (weights false) (from_right-reverse bs)

@@ -1,5 +1,7 @@
 -- Dates are day numbers, and - stops at 0: a difference that would be negative is 0.
-use Rattle.std.specs.Prelude.{ℕ, ◌+◌, ◌-◌, Bool, cond, ◌&&◌, Ok, Err, Result, nat_le}
+use Rattle.std.specs.Prelude.{ℕ, ◌+◌, ◌-◌, Bool, ◌&&◌, if◌then◌else◌, Ok, Err, Result, nat_le}
+use Rattle.quantities.specs.declared.refusal.Refusal.TheVariants.{Date}
+use Rattle.quantities.specs.Refusals.{number}
 
 -- the term of a settlement date: the days from today to it, less one
 abbrev pub term : ℕ → ℕ → ℕ
@@ -13,13 +15,18 @@ settles_in_time today date = nat_le today date && nat_le date (today + 365)
 abbrev pub is_past : ℕ → ℕ → Bool
 is_past today date = nat_le date today
 
--- a date that is in its days, refused elsewhere
-abbrev pub dated : Bool → ℕ → Result ℕ ℕ
-dated in_its_days n = cond in_its_days (Ok n) (Err 7)
+-- the date of a trade, refused outside its days
+abbrev pub settlement_date : ℕ → ℕ → Result ℕ ℕ
+settlement_date today date = if settles_in_time today date then Ok date else Err (number Date)
 
--- the term of a trade
-abbrev pub trade_term : ℕ → ℕ → Result ℕ ℕ
-trade_term today date = dated (settles_in_time today date) (term today date)
+-- the date of any other line, refused outside its days
+abbrev pub past_date : ℕ → ℕ → Result ℕ ℕ
+past_date today date = if is_past today date then Ok date else Err (number Date)
+
+-- the term of a trade, refused where its date is
+abbrev pub term_answer : ℕ → ℕ → Result ℕ ℕ
+term_answer today date =
+    if settles_in_time today date then Ok (term today date) else Err (number Date)
 
 -- the days that a bond has left
 abbrev pub residual_life : ℕ → ℕ → ℕ

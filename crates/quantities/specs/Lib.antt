@@ -1,6 +1,6 @@
 pub mod Refusals
 pub mod Ranges
-pub mod Checked
+pub mod RangeChecks
 pub mod Dates
 pub mod Tranches
 pub mod Rounding

@@ -1,5 +1,5 @@
 -- The number of each refusal.
-use Rattle.std.specs.Prelude.{◌≡◌, ℕ, Ok, Err, Result}
+use Rattle.std.specs.Prelude.{◌≡◌, ℕ}
 use Rattle.quantities.specs.declared.refusal.Refusal.{Refusal}
 use Rattle.quantities.specs.declared.refusal.Refusal.TheVariants.{Mark, Columns, CellCount, Value, Trailer, KeyPresent, Date, TitlesLimit, Full, NoPrice, NoPercentage, NoRate, NotStanding, TooLong}
 
@@ -22,8 +22,3 @@ number TooLong = 14
 -- the number tells refusals apart
 abbrev pub TellsApart : Type 0
 TellsApart = (a b : Refusal) → number a ≡ number b → a ≡ b
-
--- an answer that is a refusal with that number
-abbrev pub Refused : {X : Type 0} → ℕ → Result X Refusal → Type 0
-Refused n (Ok x) = ⊥
-Refused n (Err e) = number e ≡ n

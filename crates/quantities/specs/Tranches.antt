@@ -1,5 +1,5 @@
 -- The tranches of residual life.
-use Rattle.std.specs.Prelude.{ℕ, cond, nat_le}
+use Rattle.std.specs.Prelude.{ℕ, if◌then◌else◌, nat_le}
 use Rattle.quantities.specs.declared.tranche.Tranche.{Tranche}
 use Rattle.quantities.specs.declared.tranche.Tranche.TheVariants.{UpToOneYear, UpToThreeYears, UpToFiveYears, UpToTenYears, UpToTwentyYears, OverTwentyYears}
 
@@ -14,8 +14,9 @@ tranche_number OverTwentyYears = 6
 -- the tranche of a residual life in days
 abbrev pub tranche : ℕ → ℕ
 tranche life =
-    cond (nat_le life 365) 1
-    (cond (nat_le life 1095) 2
-    (cond (nat_le life 1825) 3
-    (cond (nat_le life 3650) 4
-    (cond (nat_le life 7300) 5 6))))
+    if nat_le life 365 then 1
+    else (if nat_le life 1095 then 2
+    else (if nat_le life 1825 then 3
+    else (if nat_le life 3650 then 4
+    else (if nat_le life 7300 then 5
+    else 6))))

@@ -1,7 +1,7 @@
 //! Dates: day numbers, of which day 0 is 1 January 2000.
 ghost use Rattle.std.specs.Prelude.{◌≡◌};
-ghost use Rattle.quantities.specs.Checked.{told};
-ghost use Rattle.quantities.specs.Dates.{term, settles_in_time, is_past, dated, trade_term, residual_life};
+ghost use Rattle.quantities.specs.RangeChecks.{numbers_of};
+ghost use Rattle.quantities.specs.Dates.{term, settlement_date, past_date, term_answer, residual_life};
 
 use crate::range::Term;
 use crate::refusal::Refusal;
@@ -14,9 +14,9 @@ pub const LATEST_SETTLEMENT: u16 = 365;
 
 /// The date of a trade, which is from today to 365 days later.
 pub fn settlement_date(today: Date, date: Date) -> Result<Date, Refusal>
-    ensures { told (λ d. d) result ≡ dated (settles_in_time today date) date }
+    ensures { numbers_of (λ d. d) result ≡ settlement_date today date }
 {
-    // Guards, by a rule of the project: they say the two ends of the days one after the other.
+    // Guards, which say the two ends of the days one after the other.
     match date {
         early if early < today => Err(Refusal::Date),
         late if late - today > LATEST_SETTLEMENT => Err(Refusal::Date),
@@ -26,9 +26,8 @@ pub fn settlement_date(today: Date, date: Date) -> Result<Date, Refusal>
 
 /// The date of any other line, which is today at the latest.
 pub fn past_date(today: Date, date: Date) -> Result<Date, Refusal>
-    ensures { told (λ d. d) result ≡ dated (is_past today date) date }
+    ensures { numbers_of (λ d. d) result ≡ past_date today date }
 {
-    // A guard, by the same rule.
     match date {
         future if future > today => Err(Refusal::Date),
         _ => Ok(date),
@@ -45,7 +44,7 @@ pub fn term_days(today: Date, settlement: Date) -> u16
 impl Term {
     /// The term of a trade that settles on a date.
     pub fn of_trade(today: Date, settlement: Date) -> Result<Term, Refusal>
-        ensures { told (λ t. t.days) result ≡ trade_term today settlement }
+        ensures { numbers_of (λ t. t.days) result ≡ term_answer today settlement }
     {
         let date = settlement_date(today, settlement)?;
         Ok(Term {

@@ -4,8 +4,8 @@ ghost use Rattle.std.specs.Cmp.{on_equiv, on_per, partial_equiv_from_equiv};
 ghost use Rattle.std.specs.Cmp.Lexicographic.{nat_list_eq_equiv};
 ghost use Rattle.std.specs.Int.{w32, w64, from_le_bytes};
 ghost use Rattle.std.specs.List.{list_all};
-ghost use Rattle.quantities.specs.Checked.{told};
-ghost use Rattle.quantities.specs.Isins.{is_digit, is_letter_or_digit, isin_shaped, written_out, second_doubled, digits_added, check_sum, is_isin, isin_in};
+ghost use Rattle.quantities.specs.RangeChecks.{numbers_of};
+ghost use Rattle.quantities.specs.Isins.{is_digit, is_letter_or_digit, isin_shaped, digits_of, with_seconds_doubled, digit_sum, check_sum, is_isin, isin_answer};
 
 use crate::refusal::Refusal;
 use std::fmt;
@@ -16,7 +16,8 @@ pub const LENGTH: usize = 12;
 // A letter's byte less its number: A is 10.
 const BEFORE_LETTERS: u8 = b'A' - 10;
 
-// What the digits of 0 to 35 add to the check sum: first where the last digit is not doubled, then where it is.
+// What the digits of 0 to 35 add to the check sum: first where the last digit is not doubled,
+// then where it is.
 const WEIGHTS: [[u8; 36]; 2] = [
     [
         0, 1, 2, 3, 4, 5, 6, 7, 8, 9, 2, 3, 4, 5, 6, 7, 8, 9, 10, 11, 4, 5, 6, 7, 8, 9, 10, 11, 12,
@@ -35,7 +36,7 @@ pub struct Isin {
 }
 
 // The first eight bytes and the last four, each as a number.
-fn words(bytes: &[u8; LENGTH]) -> (u64, u32)
+fn little_endian_words(bytes: &[u8; LENGTH]) -> (u64, u32)
     ensures first { result.0 ≡ from_le_bytes w64 (take 8 bytes.now) }
     ensures last { result.1 ≡ from_le_bytes w32 (drop 8 bytes.now) }
     ensures count { length bytes.now ≡ 12 }
@@ -55,7 +56,7 @@ impl PartialEq for Isin {
     ghost laws = { on_per (λ i. i.bytes) (partial_equiv_from_equiv nat_list_eq_equiv) };
 
     fn eq(&self, other: &Isin) -> bool {
-        words(&self.bytes) == words(&other.bytes)
+        little_endian_words(&self.bytes) == little_endian_words(&other.bytes)
     }
 }
 
@@ -76,7 +77,7 @@ fn is_shaped(bytes: &[u8; LENGTH]) -> bool
     country && security && bytes[11].is_ascii_digit()
 }
 
-// Whether a digit or a letter is written out as one digit.
+// Whether the number of a digit or a letter has one digit.
 fn is_one_digit(byte: u8) -> bool
     requires { IsTrue (is_letter_or_digit byte) }
     ensures { result ≡ is_digit byte }
@@ -100,7 +101,8 @@ fn number(byte: u8) -> u8
 // What a digit or a letter adds to the check sum, where its last digit is doubled or not.
 fn weight(byte: u8, doubled: bool) -> u32
     requires { IsTrue (is_letter_or_digit byte) }
-    ensures is { let digits = reverse (written_out (byte ∷ [])) in result ≡ digits_added (second_doubled (if doubled then 0 ∷ digits else digits)) }
+    ensures is { let digits = reverse (digits_of (byte ∷ [])) in
+        result ≡ digit_sum (with_seconds_doubled (if doubled then 0 ∷ digits else digits)) }
     ensures small { result ≤ 255 }
 {
     u32::from(WEIGHTS[usize::from(doubled)][usize::from(number(byte))])
@@ -133,7 +135,8 @@ impl Isin {
 impl TryFrom<&[u8]> for Isin {
     type Error = Refusal;
 
-    ghost try_from_gives = { λ cell result. told (λ isin. isin.bytes) result ≡ isin_in cell.now };
+    ghost try_from_gives = { λ cell result.
+        numbers_of (λ isin. isin.bytes) result ≡ isin_answer cell.now };
 
     fn try_from(cell: &[u8]) -> Result<Isin, Refusal> {
         let bytes = <[u8; LENGTH]>::try_from(cell).map_err(|_| Refusal::Value)?;

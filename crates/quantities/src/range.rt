@@ -1,6 +1,6 @@
 //! Quantities that stay within their ranges.
 ghost use Rattle.std.specs.Prelude.{◌≡◌, ◌≤◌, ◌≤ℤ◌};
-ghost use Rattle.quantities.specs.Checked.{told, checked, checked_signed};
+ghost use Rattle.quantities.specs.RangeChecks.{numbers_of, range_answer, signed_range_answer};
 ghost use Rattle.quantities.specs.Ranges.{most_cash, most_titles, lowest_price, highest_price, lowest_rate, highest_rate, highest_percentage, longest_term};
 
 use crate::refusal::Refusal;
@@ -16,12 +16,12 @@ impl Cash {
     pub const MOST: u64 = 1_000_000_000_000;
 }
 
-// The five tests stay patterns: one generic test proves too, but takes three like numbers, and the pattern is the range itself.
+// The test of each quantity is a pattern, which is the range itself.
 impl TryFrom<u64> for Cash {
     type Error = Refusal;
 
     ghost try_from_gives = { λ cents result.
-        told (λ cash. cash.cents) result ≡ checked 0 most_cash cents };
+        numbers_of (λ cash. cash.cents) result ≡ range_answer 0 most_cash cents };
 
     fn try_from(cents: u64) -> Result<Cash, Refusal> {
         match cents {
@@ -46,7 +46,7 @@ impl TryFrom<u32> for Titles {
     type Error = Refusal;
 
     ghost try_from_gives = { λ count result.
-        told (λ titles. titles.count) result ≡ checked 0 most_titles count };
+        numbers_of (λ titles. titles.count) result ≡ range_answer 0 most_titles count };
 
     fn try_from(count: u32) -> Result<Titles, Refusal> {
         match count {
@@ -74,7 +74,8 @@ impl TryFrom<u32> for UnitPrice {
     type Error = Refusal;
 
     ghost try_from_gives = { λ millionths result.
-        told (λ price. price.millionths) result ≡ checked lowest_price highest_price millionths };
+        numbers_of (λ price. price.millionths) result
+        ≡ range_answer lowest_price highest_price millionths };
 
     fn try_from(millionths: u32) -> Result<UnitPrice, Refusal> {
         match millionths {
@@ -102,7 +103,8 @@ impl TryFrom<i16> for Rate {
     type Error = Refusal;
 
     ghost try_from_gives = { λ basis_points result.
-        told (λ rate. rate.basis_points) result ≡ checked_signed lowest_rate highest_rate basis_points };
+        numbers_of (λ rate. rate.basis_points) result
+        ≡ signed_range_answer lowest_rate highest_rate basis_points };
 
     fn try_from(basis_points: i16) -> Result<Rate, Refusal> {
         match basis_points {
@@ -127,7 +129,8 @@ impl TryFrom<u16> for MarginPercentage {
     type Error = Refusal;
 
     ghost try_from_gives = { λ basis_points result.
-        told (λ percentage. percentage.basis_points) result ≡ checked 0 highest_percentage basis_points };
+        numbers_of (λ percentage. percentage.basis_points) result
+        ≡ range_answer 0 highest_percentage basis_points };
 
     fn try_from(basis_points: u16) -> Result<MarginPercentage, Refusal> {
         match basis_points {

@@ -40,7 +40,7 @@ pub enum Refusal {
 
 impl Refusal {
     /// The number by which formats and callers know a refusal.
-    // A method and no conversion: its second clause is a law of all refusals, which no conversion's contract holds.
+    // A method and no conversion: its second clause is a law of all refusals.
     pub fn number(self) -> u8
         ensures is { result ≡ number self }
         ensures tells_apart { TellsApart }

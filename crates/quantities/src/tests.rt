@@ -1,6 +1,6 @@
 //! The edges of every range.
 ghost use Rattle.std.specs.Prelude.{◌≡◌};
-ghost use Rattle.quantities.specs.Checked.{told, checked};
+ghost use Rattle.quantities.specs.RangeChecks.{numbers_of, range_answer};
 ghost use Rattle.quantities.specs.Ranges.{most_cash};
 
 use crate::amount::*;
@@ -30,7 +30,7 @@ fn ranges_end_where_they_should(rt: HostRuntime) {
 }
 
 fn read_cents(cents: u64) -> Result<Cents, Refusal>
-    ensures { told (λ c. c) result ≡ checked 0 most_cash cents }
+    ensures { numbers_of (λ c. c) result ≡ range_answer 0 most_cash cents }
 {
     Ok(Cash::try_from(cents)?.cents)
 }

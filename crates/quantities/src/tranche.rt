@@ -1,6 +1,6 @@
 //! The tranches of residual life, by which margin percentages are set.
 ghost use Rattle.std.specs.Prelude.{◌≡◌};
-ghost use Rattle.quantities.specs.Checked.{told, checked};
+ghost use Rattle.quantities.specs.RangeChecks.{numbers_of, range_answer};
 ghost use Rattle.quantities.specs.Tranches.{tranche_number, tranche};
 
 use crate::refusal::Refusal;
@@ -19,7 +19,8 @@ pub enum Tranche {
 impl TryFrom<u8> for Tranche {
     type Error = Refusal;
 
-    ghost try_from_gives = { λ number result. told tranche_number result ≡ checked 1 6 number };
+    ghost try_from_gives = { λ number result.
+        numbers_of tranche_number result ≡ range_answer 1 6 number };
 
     fn try_from(number: u8) -> Result<Tranche, Refusal> {
         match number {

@@ -6,7 +6,7 @@ use Rattle.std.proofs.lemmas.List.{length-take-le, length-drop, get_or-take, get
 use Rattle.std.proofs.lemmas.List.Edits.{length-insert, get_or-insert_below, get_or-insert_at, get_or-insert_above, length-remove, get_or-remove_below, get_or-remove_above}
 use Rattle.register.specs.Keys.{found_by, has_rank, inserted_by, without, Ascends}
 use Rattle.std.specs.List.Sorted.{IsPartitionedBy, IsPartitionPoint}
-use Rattle.register.specs.Search.{Parts, Hits, Misses, Placed, LastBelow, FirstAbove}
+use Rattle.register.specs.Search.{SplitsAt, Hits, Misses, IsPlace, LastBelow, FirstAbove}
 
 -- the ranks rise between any two places
 abbrev pub Far : {X : Type 0} → (X → ℕ) → List X → Type 0
@@ -176,7 +176,7 @@ module _ {X : Type 0} (f : X → ℕ) where
       (cases_lt i p)
 
   -- the two parts of the records at a place
-  parted : (n : ℕ) (xs : List X) (p : ℕ) → p ≤ length xs → ((k : ℕ) (d : X) → k < p → f (get_or xs k d) < n) → ((k : ℕ) (d : X) → p ≤ k → k < length xs → n ≤ f (get_or xs k d)) → Parts f n xs p
+  parted : (n : ℕ) (xs : List X) (p : ℕ) → p ≤ length xs → ((k : ℕ) (d : X) → k < p → f (get_or xs k d) < n) → ((k : ℕ) (d : X) → p ≤ k → k < length xs → n ≤ f (get_or xs k d)) → SplitsAt f n xs p
   parted n [] zero l low high = record { below = refl; from = refl }
   parted n [] (suc p) l low high = absurd (omega arith)
   parted n (x ∷ xs) zero l low high =
@@ -223,12 +223,12 @@ module _ {X : Type 0} (f : X → ℕ) where
       (λ ne. let u = far xs up i j d (omega (arith, ne)) m in let v = ltb-true (f (get_or xs j d)) n h in lt-ltb _ n (omega arith))
       (cases_eq i j)
 
-  pub placed_hit : (n : ℕ) (xs : List X) (p : ℕ) → Ascends f xs → p < length xs → ((d : X) → f (get_or xs p d) ≡ n) → Placed f n xs (Ok p)
+  pub placed_hit : (n : ℕ) (xs : List X) (p : ℕ) → Ascends f xs → p < length xs → ((d : X) → f (get_or xs p d) ≡ n) → IsPlace f n xs (Ok p)
   placed_hit n xs p up l here = (l, hits_at n xs p l here up)
 
   -- p parts the ranks below n from the others, and the record at p, if there is one, has another rank
   pub placed_miss : (n : ℕ) (xs : List X) (p : ℕ) → Ascends f xs → p ≤ length xs → IsPartitionPoint (λ x. ltb (f x) n ≡ true) (λ x. ltb (f x) n ≡ false) xs p →
-      (p < length xs → (d : X) → n ≤ f (get_or xs p d) → n < f (get_or xs p d)) → Placed f n xs (Err p)
+      (p < length xs → (d : X) → n ≤ f (get_or xs p d) → n < f (get_or xs p d)) → IsPlace f n xs (Err p)
   placed_miss n xs p up l parts other = (
     l,
     misses_at n xs p l record {
@@ -243,7 +243,7 @@ module _ {X : Type 0} (f : X → ℕ) where
   )
 
   -- p parts xs into records of ranks below n and above it
-  pub placed_between : (n : ℕ) (xs : List X) (p : ℕ) → Ascends f xs → p ≤ length xs → LastBelow f n (take p xs) → FirstAbove f n (drop p xs) → Placed f n xs (Err p)
+  pub placed_between : (n : ℕ) (xs : List X) (p : ℕ) → Ascends f xs → p ≤ length xs → LastBelow f n (take p xs) → FirstAbove f n (drop p xs) → IsPlace f n xs (Err p)
   placed_between n xs p up l low high =
       let many = length-take-le p xs l in
       let rest = length-drop p xs in

@@ -6,7 +6,7 @@ use Rattle.std.specs.declared.cmp.Ordering.{Ordering}
 use Rattle.std.specs.Cmp.Lexicographic.{slice_cmp}
 use Rattle.std.specs.Ordering.{nat_cmp, ordering_then}
 use Rattle.register.specs.Keys.{Compares}
-use Rattle.register.specs.Bytes.{value, Bytes, before, ByteOrder}
+use Rattle.register.specs.Bytes.{value, Bytes, is_before, ByteOrder}
 
 tail : {n : ℕ} (x : ℕ) (xs : List ℕ) → Bytes (suc n) (x ∷ xs) → Bytes n xs
 tail x xs h = record { many = let e = h.many in omega arith; small = λ i l. h.small (suc i) (omega arith) }
@@ -67,7 +67,7 @@ twelve_compared xs ys a b c d h k p q s t =
     (λ (w : c < a). rw (le-ltb a c (omega arith), ne_eqb a c (λ z. omega arith)) (omega arith)))
     (cases_order a c)
 
-in_order : (n a : ℕ) (xs ys : List ℕ) → Bytes n xs → Bytes n ys → ltb (value a xs) (value a ys) ≡ before xs ys
+in_order : (n a : ℕ) (xs ys : List ℕ) → Bytes n xs → Bytes n ys → ltb (value a xs) (value a ys) ≡ is_before xs ys
 in_order n a [] [] h k = le-ltb a a (omega arith)
 in_order n a [] (y ∷ ys) h k = let p = h.many in let q = k.many in absurd (omega arith)
 in_order n a (x ∷ xs) [] h k = let p = h.many in let q = k.many in absurd (omega arith)

@@ -3,7 +3,7 @@ use Rattle.std.specs.Prelude.{ℕ, ◌≤◌, min, List, length, take}
 use Rattle.register.specs.Keys.{Ascends}
 
 -- its records, in the order of their keys, and how many it can hold
-pub record Held (X : Type 0) : Type 0 where
+pub record Table (X : Type 0) : Type 0 where
   pub records : List X
   pub room : ℕ
 

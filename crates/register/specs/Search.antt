@@ -1,34 +1,35 @@
 -- What a search for a rank n among records that ascend has shown.
-use Rattle.std.specs.Prelude.{◌≡◌, ℕ, ◌-◌, ◌<◌, ◌≤◌, true, false, List, length, take, drop, Some, None, Ok, Err, Result, slice_index_or}
+use Rattle.std.specs.Prelude.{◌≡◌, ℕ, ◌-◌, ◌<◌, ◌≤◌, List, length, take, drop, Some, None, Ok, Err, Result, slice_index_or, IsTrue}
+use Rattle.std.specs.Bool.{IsFalse}
 use Rattle.std.specs.List.{insert, remove}
 use Rattle.register.specs.Keys.{Ascends, found_by, has_rank, inserted_by, without, below_rank, from_rank}
 
 -- the records before p are those of ranks below n, and the others follow
-pub record Parts {X : Type 0} (f : X → ℕ) (n : ℕ) (xs : List X) (p : ℕ) : Type 0 where
+pub record SplitsAt {X : Type 0} (f : X → ℕ) (n : ℕ) (xs : List X) (p : ℕ) : Type 0 where
   pub below : take p xs ≡ below_rank f n xs
   pub from : drop p xs ≡ from_rank f n xs
 
 -- the one record of rank n stands at p
 pub record Hits {X : Type 0} (f : X → ℕ) (n : ℕ) (xs : List X) (p : ℕ) : Type 0 where
-  pub present : has_rank f n xs ≡ true
+  pub present : IsTrue (has_rank f n xs)
   pub found : (x : X) → x ≡ slice_index_or xs p x → found_by f n xs ≡ Some x
   pub rest : without f n xs ≡ remove xs p
   pub ascends : Ascends f (remove xs p)
-  pub parts : Parts f n xs p
+  pub parts : SplitsAt f n xs p
 
 -- no record has rank n, and p is the place of one that had
 pub record Misses {X : Type 0} (f : X → ℕ) (n : ℕ) (xs : List X) (p : ℕ) : Type 0 where
-  pub absent : has_rank f n xs ≡ false
+  pub absent : IsFalse (has_rank f n xs)
   pub none : found_by f n xs ≡ None
   pub rest : without f n xs ≡ xs
   pub more : (r : X) → f r ≡ n → inserted_by f r xs ≡ insert xs p r
   pub ascends : (r : X) → f r ≡ n → Ascends f (insert xs p r)
-  pub parts : Parts f n xs p
+  pub parts : SplitsAt f n xs p
 
 -- the answer is the place of rank n, or the place that it would have
-abbrev pub Placed : {X : Type 0} → (X → ℕ) → ℕ → List X → Result ℕ ℕ → Type 0
-Placed f n xs (Ok p) = (p < length xs) × Hits f n xs p
-Placed f n xs (Err p) = (p ≤ length xs) × Misses f n xs p
+abbrev pub IsPlace : {X : Type 0} → (X → ℕ) → ℕ → List X → Result ℕ ℕ → Type 0
+IsPlace f n xs (Ok p) = (p < length xs) × Hits f n xs p
+IsPlace f n xs (Err p) = (p ≤ length xs) × Misses f n xs p
 
 -- the last record, if there is one, has a rank below n, and the first one a rank above it
 abbrev pub LastBelow : {X : Type 0} → (X → ℕ) → ℕ → List X → Type 0

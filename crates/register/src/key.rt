@@ -14,7 +14,8 @@ pub trait Key: Copy {
         ensures { Compares rank self.now other.now result };
 }
 
-// Four like bodies: a default one was tried and does not prove, since it sees twelve bytes as numbers of any size, which have no such rank.
+// Each key has a body of its own: to a default one twelve bytes are numbers of any size,
+// which have no such rank.
 impl Key for u8 {
     ghost rank = { λ k. k };
 
@@ -49,7 +50,7 @@ impl Key for [u8; 12] {
 }
 
 // The first eight bytes and the last four, each as a number.
-fn words(key: &[u8; 12]) -> (u64, u32)
+fn big_endian_words(key: &[u8; 12]) -> (u64, u32)
     ensures { value 0 key.now ≡ result.0 * 2 ^ 32 + result.1 }
 {
     let [a, b, c, d, e, f, g, h, i, j, k, l] = *key;
@@ -66,7 +67,7 @@ pub fn byte_order(left: &[u8; 12], right: &[u8; 12]) -> Ordering
     ensures bytes { (Bytes 12 left.now) × (Bytes 12 right.now) }
     ensures agrees { ByteOrder 12 }
 {
-    let (first, last) = words(left);
-    let (other_first, other_last) = words(right);
+    let (first, last) = big_endian_words(left);
+    let (other_first, other_last) = big_endian_words(right);
     first.cmp(&other_first).then(last.cmp(&other_last))
 }

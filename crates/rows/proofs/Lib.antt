@@ -1,3 +1,6 @@
-pub mod Spelled
-pub mod Parts
+pub mod Conditions
+pub mod Quantities
+pub mod Records
+pub mod CellSpellings
+pub mod PartSpellings
 pub mod Rows

@@ -3,7 +3,7 @@ use Rattle.std.specs.Prelude.{Bool, ◌&&◌, List, [], ◌∷◌, Option, Some,
 use Rattle.std.specs.Fmt.{decimal}
 use Rattle.std.specs.Str.{bytes_eq}
 use Rattle.text.specs.Cells.{Cell}
-use Rattle.sheet.specs.Kinds.{Kind}
+use Rattle.sheet.specs.Kinds.{SheetKind}
 use Rattle.rows.specs.declared.day.Mode.{Mode}
 use Rattle.rows.specs.declared.day.Mode.TheVariants.{Net, Gross}
 use Rattle.rows.specs.declared.day.CurveShape.{CurveShape}
@@ -13,13 +13,17 @@ use Rattle.rows.specs.Forms.{date_in, is_date}
 
 -- N is net, and G gross
 unfoldable pub mode_in : Cell → Option Mode
-mode_in cell = if bytes_eq cell (codes "N") then Some Net else (if bytes_eq cell (codes "G") then Some Gross else None)
+mode_in cell =
+    if bytes_eq cell (codes "N") then Some Net
+    else (if bytes_eq cell (codes "G") then Some Gross else None)
 
 -- S is the step curve, and L the sloping one
 unfoldable pub curve_in : Cell → Option CurveShape
-curve_in cell = if bytes_eq cell (codes "S") then Some Step else (if bytes_eq cell (codes "L") then Some Sloping else None)
+curve_in cell =
+    if bytes_eq cell (codes "S") then Some Step
+    else (if bytes_eq cell (codes "L") then Some Sloping else None)
 
-abbrev pub days : Kind DayRow
+abbrev pub days : SheetKind DayRow
 days =
     record {
       mark = codes "DAY";
@@ -51,4 +55,8 @@ curve_cell Sloping = codes "L"
 
 -- how a day is spelled
 abbrev pub day_cells : DayRow → List Cell
-day_cells row = decimal row.today ∷ (decimal row.next ∷ (mode_cell row.mode ∷ (curve_cell row.curve ∷ [])))
+day_cells row =
+    decimal row.today
+    ∷ (decimal row.next
+    ∷ (mode_cell row.mode
+    ∷ (curve_cell row.curve ∷ [])))

@@ -1,5 +1,5 @@
 -- What cells of several kinds of row say; none where a cell does not fit.
-use Rattle.std.specs.Prelude.{ℕ, Bool, [], Option, Some, None, if◌then◌else◌, nat_le}
+use Rattle.std.specs.Prelude.{ℕ, Bool, true, false, [], Option, Some, None, IsTrue, refl, if◌then◌else◌, nat_le}
 use Rattle.text.specs.Cells.{Cell}
 use Rattle.text.specs.Numbers.{number_in}
 use Rattle.quantities.specs.declared.isin.Isin.{Isin}
@@ -21,3 +21,13 @@ no_isin = record { bytes = [] }
 
 abbrev pub is_date : ℕ → Bool
 is_date date = nat_le date last_date
+
+-- what is made where a test passes
+abbrev pub if_passed : {X : Type 0} → (b : Bool) → (IsTrue b → X) → Option X
+if_passed true make = Some (make refl)
+if_passed false make = None
+
+-- what is made where two tests pass
+abbrev pub if_both : {X : Type 0} → (b c : Bool) → (IsTrue b → IsTrue c → X) → Option X
+if_both true c make = if_passed c (make refl)
+if_both false c make = None

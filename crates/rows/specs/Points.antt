@@ -1,30 +1,64 @@
 -- The points of the curve: a rate at each term.
-use Rattle.std.specs.Prelude.{ℕ, Bool, ◌&&◌, List, ℤ, pos, [], ◌∷◌, Option, is_some, unwrap_or, codes, nat_le, int_le}
+use Rattle.std.specs.Prelude.{ℕ, Bool, true, List, ℤ, pos, [], ◌∷◌, Option, is_some, unwrap_or, codes, nat_le, int_le, option_and_then}
+use Rattle.std.specs.Bool.{passes}
 use Rattle.std.specs.Fmt.{decimal, signed_decimal}
+use Rattle.std.specs.Int.Signed.{le_z_yes}
+use lib.Dec.{leb→le}
 use Rattle.text.specs.Cells.{Cell}
-use Rattle.text.specs.Numbers.{number_in, signed_number_in}
+use Rattle.text.specs.Numbers.{number_in, signed_number}
+use Rattle.quantities.specs.declared.range.Rate.{Rate}
 use Rattle.quantities.specs.Ranges.{lowest_rate, highest_rate, longest_curve_term}
-use Rattle.sheet.specs.Kinds.{Kind}
-use Rattle.rows.specs.declared.point.PointRow.{PointRow}
+use Rattle.sheet.specs.Kinds.{SheetKind}
+use Rattle.curve.specs.declared.point.Point.{Point}
+use Rattle.rows.specs.Forms.{if_passed, if_both}
 
 unfoldable pub term_in : Cell → Option ℕ
 term_in cell = number_in 0 longest_curve_term cell
 
-unfoldable pub rate_in : Cell → Option ℤ
-rate_in cell = signed_number_in lowest_rate highest_rate cell
+-- a number as a rate, in its range
+abbrev pub rate_of_number : ℤ → Option Rate
+rate_of_number z =
+    if_both (int_le lowest_rate z) (int_le z highest_rate)
+    (λ low high.
+    record {
+      basis_points = z;
+      above = le_z_yes (passes _ low);
+      within = le_z_yes (passes _ high);
+    })
 
-abbrev pub points : Kind PointRow
+unfoldable pub rate_in : Cell → Option Rate
+rate_in cell = option_and_then rate_of_number (signed_number cell)
+
+-- the point of a term, in its range, and a rate
+abbrev pub term_point : ℕ → Rate → Option Point
+term_point term rate =
+    if_passed (nat_le term longest_curve_term)
+    (λ short. record { term = term; rate = rate; within = leb→le _ _ (passes _ short) })
+
+-- in the place of a rate where a cell holds none
+abbrev pub no_rate : Rate
+no_rate = record { basis_points = pos 0; above = le_z_yes tt; within = le_z_yes tt }
+
+-- in the place of a point where a cell does not fit
+abbrev pub no_point : Point
+no_point = record { term = 0; rate = no_rate; within = leb→le _ _ tt }
+
+abbrev pub points : SheetKind Point
 points =
     record {
       mark = codes "CRV";
       needed = codes "TERM" ∷ (codes "RATE" ∷ []);
       fits = λ cell. is_some (term_in (cell 0)) ∷ (is_some (rate_in (cell 1)) ∷ []);
-      row = λ cell. record { term = unwrap_or (term_in (cell 0)) 0; rate = unwrap_or (rate_in (cell 1)) (pos 0) };
+      row = λ cell.
+          let term = unwrap_or (term_in (cell 0)) 0 in
+          let rate = unwrap_or (rate_in (cell 1)) no_rate in
+          unwrap_or (term_point term rate) no_point;
     }
 
-abbrev pub point_in_range : PointRow → Bool
-point_in_range row = nat_le row.term longest_curve_term && (int_le lowest_rate row.rate && int_le row.rate highest_rate)
+-- the parts of a point are in their ranges by its type
+abbrev pub point_in_range : Point → Bool
+point_in_range point = true
 
 -- how a point is spelled
-abbrev pub point_cells : PointRow → List Cell
-point_cells row = decimal row.term ∷ (signed_decimal row.rate ∷ [])
+abbrev pub point_cells : Point → List Cell
+point_cells point = decimal point.term ∷ (signed_decimal point.rate.basis_points ∷ [])

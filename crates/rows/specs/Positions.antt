@@ -8,13 +8,13 @@ use Rattle.quantities.specs.Ranges.{most_cash, most_titles, highest_reference}
 use Rattle.account.specs.declared.line.Line.{Line}
 use Rattle.account.specs.declared.line.Side.{Side}
 use Rattle.account.specs.declared.line.Side.TheVariants.{Bought, Sold}
-use Rattle.account.specs.declared.line.Block.{Block}
-use Rattle.account.specs.declared.line.Block.TheVariants.{Trade, Failed, Held, CashOnly}
-use Rattle.account.specs.Lines.{date}
-use Rattle.account.specs.Answers.{well_formed}
-use Rattle.sheet.specs.Kinds.{Kind}
-use Rattle.rows.specs.declared.position.BlockLetter.{BlockLetter}
-use Rattle.rows.specs.declared.position.BlockLetter.TheVariants.{T, F, H, C}
+use Rattle.account.specs.declared.block.Block.{Block}
+use Rattle.account.specs.declared.block.Block.TheVariants.{Trade, Failed, Held, CashOnly}
+use Rattle.account.specs.Lines.{date, dated_block}
+use Rattle.account.specs.Answers.{is_well_formed}
+use Rattle.sheet.specs.Kinds.{SheetKind}
+use Rattle.account.specs.declared.block.BlockName.{BlockName}
+use Rattle.account.specs.declared.block.BlockName.TheVariants.{Trade as trade, Failed as failed, Held as held, CashOnly as cash_only}
 use Rattle.rows.specs.Forms.{date_in, isin_in, no_isin, is_date}
 
 unfoldable pub reference_in : Cell → Option ℕ
@@ -22,38 +22,41 @@ reference_in cell = number_in 1 highest_reference cell
 
 -- B is bought, and S sold
 unfoldable pub side_in : Cell → Option Side
-side_in cell = if bytes_eq cell (codes "B") then Some Bought else (if bytes_eq cell (codes "S") then Some Sold else None)
+side_in cell =
+    if bytes_eq cell (codes "B") then Some Bought
+    else (if bytes_eq cell (codes "S") then Some Sold else None)
 
-unfoldable pub block_in : Cell → Option BlockLetter
+unfoldable pub block_in : Cell → Option BlockName
 block_in cell =
-    if bytes_eq cell (codes "T") then Some T
-    else (if bytes_eq cell (codes "F") then Some F
-    else (if bytes_eq cell (codes "H") then Some H
-    else (if bytes_eq cell (codes "C") then Some C else None)))
+    if bytes_eq cell (codes "T") then Some trade
+    else (if bytes_eq cell (codes "F") then Some failed
+    else (if bytes_eq cell (codes "H") then Some held
+    else (if bytes_eq cell (codes "C") then Some cash_only else None)))
 
--- T is a trade, F a failed line, H a held one and C a cash-only one
-abbrev pub block_of : BlockLetter → ℕ → Block
-block_of T date = Trade date
-block_of F date = Failed date
-block_of H date = Held date
-block_of C date = CashOnly date
-
--- cash-only lines have no titles, all others 1 to 2,000,000; beside a block that is none of the four, any number up to there fits
-unfoldable pub titles_in : Option BlockLetter → Cell → Option ℕ
-titles_in (Some T) cell = number_in 1 most_titles cell
-titles_in (Some F) cell = number_in 1 most_titles cell
-titles_in (Some H) cell = number_in 1 most_titles cell
-titles_in (Some C) cell = number_in 0 0 cell
+-- cash-only lines have no titles, all others 1 to 2,000,000; beside a block that is none of the
+-- four, any number up to there fits
+unfoldable pub titles_in : Option BlockName → Cell → Option ℕ
+titles_in (Some trade) cell = number_in 1 most_titles cell
+titles_in (Some failed) cell = number_in 1 most_titles cell
+titles_in (Some held) cell = number_in 1 most_titles cell
+titles_in (Some cash_only) cell = number_in 0 0 cell
 titles_in None cell = number_in 0 most_titles cell
 
 unfoldable pub cash_in : Cell → Option ℕ
 cash_in cell = number_in 0 most_cash cell
 
-abbrev pub positions : Kind Line
+abbrev pub positions : SheetKind Line
 positions =
     record {
       mark = codes "POS";
-      needed = codes "REF" ∷ (codes "ISIN" ∷ (codes "SIDE" ∷ (codes "BLOCK" ∷ (codes "TITLES" ∷ (codes "CASH" ∷ (codes "DATE" ∷ []))))));
+      needed =
+          codes "REF"
+          ∷ (codes "ISIN"
+          ∷ (codes "SIDE"
+          ∷ (codes "BLOCK"
+          ∷ (codes "TITLES"
+          ∷ (codes "CASH"
+          ∷ (codes "DATE" ∷ []))))));
       fits = λ cell.
           is_some (reference_in (cell 0))
           ∷ (is_some (isin_in (cell 1))
@@ -69,13 +72,15 @@ positions =
             side = unwrap_or (side_in (cell 2)) Bought;
             titles = unwrap_or (titles_in (block_in (cell 3)) (cell 4)) 0;
             cash = unwrap_or (cash_in (cell 5)) 0;
-            block = block_of (unwrap_or (block_in (cell 3)) C) (unwrap_or (date_in (cell 6)) 0);
+            block =
+                dated_block (unwrap_or (block_in (cell 3)) cash_only)
+                (unwrap_or (date_in (cell 6)) 0);
           };
     }
 
 -- a line that a book accepts by its form, with a date
 abbrev pub line_in_range : Line → Bool
-line_in_range line = well_formed line && is_date (date line.block)
+line_in_range line = is_well_formed line && is_date (date line.block)
 
 abbrev pub side_cell : Side → Cell
 side_cell Bought = codes "B"

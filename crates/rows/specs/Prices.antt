@@ -1,34 +1,79 @@
 -- The prices: one for each ISIN, with its maturity.
-use Rattle.std.specs.Prelude.{ℕ, Bool, ◌&&◌, List, [], ◌∷◌, Option, is_some, unwrap_or, codes, nat_le}
+use Rattle.std.specs.Prelude.{ℕ, Bool, List, [], ◌∷◌, Option, is_some, unwrap_or, codes, nat_le, option_and_then, refl}
+use Rattle.std.specs.Bool.{passes}
 use Rattle.std.specs.Fmt.{decimal}
+use lib.Dec.{leb→le}
 use Rattle.text.specs.Cells.{Cell}
-use Rattle.text.specs.Numbers.{number_in}
+use Rattle.text.specs.Numbers.{number}
+use Rattle.quantities.specs.declared.range.UnitPrice.{UnitPrice}
 use Rattle.quantities.specs.Isins.{is_isin}
 use Rattle.quantities.specs.Ranges.{lowest_price, highest_price}
-use Rattle.sheet.specs.Kinds.{Kind}
-use Rattle.rows.specs.declared.price.PriceRow.{PriceRow}
-use Rattle.rows.specs.Forms.{date_in, isin_in, no_isin, is_date}
+use Rattle.sheet.specs.Kinds.{SheetKind}
+use Rattle.market.specs.declared.price.Price.{Price}
+use Rattle.rows.specs.Forms.{date_in, isin_in, is_date, if_passed, if_both}
 
-unfoldable pub price_in : Cell → Option ℕ
-price_in cell = number_in lowest_price highest_price cell
+-- a number as a price, in its range
+abbrev pub price_of_number : ℕ → Option UnitPrice
+price_of_number n =
+    if_both (nat_le lowest_price n) (nat_le n highest_price)
+    (λ low high.
+    record {
+      millionths = n;
+      above = leb→le _ _ (passes _ low);
+      within = leb→le _ _ (passes _ high);
+    })
 
-abbrev pub prices : Kind PriceRow
+unfoldable pub price_in : Cell → Option UnitPrice
+price_in cell = option_and_then price_of_number (number cell)
+
+-- the price of the ISIN that a cell holds
+abbrev pub isin_price : Cell → UnitPrice → ℕ → Option Price
+isin_price cell price maturity =
+    if_passed (is_isin cell)
+    (λ valid.
+    record {
+      isin = record { bytes = cell };
+      price = price;
+      maturity = maturity;
+      valid = valid;
+    })
+
+-- in the place of a price where a cell holds none
+abbrev pub no_unit_price : UnitPrice
+no_unit_price = record { millionths = lowest_price; above = leb→le _ _ tt; within = leb→le _ _ tt }
+
+-- in the place of a price where a cell does not fit
+abbrev pub no_price : Price
+no_price =
+    record {
+      isin = record { bytes = codes "XX0000000002" };
+      price = no_unit_price;
+      maturity = 0;
+      valid = refl;
+    }
+
+abbrev pub prices : SheetKind Price
 prices =
     record {
       mark = codes "PRC";
       needed = codes "ISIN" ∷ (codes "PRICE" ∷ (codes "MATURITY" ∷ []));
-      fits = λ cell. is_some (isin_in (cell 0)) ∷ (is_some (price_in (cell 1)) ∷ (is_some (date_in (cell 2)) ∷ []));
+      fits = λ cell.
+          is_some (isin_in (cell 0))
+          ∷ (is_some (price_in (cell 1))
+          ∷ (is_some (date_in (cell 2)) ∷ []));
       row = λ cell.
-          record {
-            isin = unwrap_or (isin_in (cell 0)) no_isin;
-            price = unwrap_or (price_in (cell 1)) 0;
-            maturity = unwrap_or (date_in (cell 2)) 0;
-          };
+          let price = unwrap_or (price_in (cell 1)) no_unit_price in
+          let maturity = unwrap_or (date_in (cell 2)) 0 in
+          unwrap_or (isin_price (cell 0) price maturity) no_price;
     }
 
-abbrev pub price_in_range : PriceRow → Bool
-price_in_range row = is_isin row.isin.bytes && ((nat_le lowest_price row.price && nat_le row.price highest_price) && is_date row.maturity)
+-- the other parts of a price are in their ranges by its type
+abbrev pub price_in_range : Price → Bool
+price_in_range price = is_date price.maturity
 
 -- how a price is spelled
-abbrev pub price_cells : PriceRow → List Cell
-price_cells row = row.isin.bytes ∷ (decimal row.price ∷ (decimal row.maturity ∷ []))
+abbrev pub price_cells : Price → List Cell
+price_cells price =
+    price.isin.bytes
+    ∷ (decimal price.price.millionths
+    ∷ (decimal price.maturity ∷ []))

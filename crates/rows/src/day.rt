@@ -62,9 +62,9 @@ const MODE: usize = 2;
 const CURVE: usize = 3;
 
 /// The kind of the one row of a day.
-pub struct Days;
+pub struct DayRows;
 
-impl RowKind for Days {
+impl RowKind for DayRows {
     type Row = DayRow;
 
     const MARK: [u8; 3] = *b"DAY";

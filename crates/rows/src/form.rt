@@ -1,5 +1,6 @@
 //! The cells that several kinds of row have.
-ghost use Rattle.std.specs.Prelude.{◌≡◌};
+ghost use Rattle.std.specs.Prelude.{◌≡◌, IfSome, IsTrue};
+ghost use Rattle.quantities.specs.Isins.{is_isin};
 ghost use Rattle.rows.specs.Forms.{date_in, isin_in};
 
 use quantities::date::Date;
@@ -18,7 +19,8 @@ pub fn parse_date(cell: &[u8]) -> Option<Date>
 /// An ISIN with its right check digit.
 #[tactic(auto, unfolding(crate::specs::Forms::isin_in))]
 pub fn parse_isin(cell: &[u8]) -> Option<Isin>
-    ensures { result ≡ isin_in cell.now }
+    ensures is { result ≡ isin_in cell.now }
+    ensures valid { IfSome result (λ isin. IsTrue (is_isin isin.bytes)) }
 {
     Isin::try_from(cell).ok()
 }

@@ -3,32 +3,29 @@ ghost use Rattle.std.specs.Prelude.{◌≡◌, codes};
 ghost use Rattle.std.proofs.Common.{rules};
 ghost use Rattle.rows.specs.Percentages.{tranche_in, percentage_in, percentages};
 
+use market::percentage::Percentage;
 use quantities::range::MarginPercentage;
+use quantities::tranche::Tranche;
 use sheet::cells::Cells;
 use sheet::kind::RowKind;
 use text::number::number;
 
-/// The percentage of a tranche as it is handed.
-#[derive(Clone, Copy, PartialEq, Eq, Debug)]
-pub struct PercentageRow {
-    pub tranche: u8,
-    pub percentage: u16,
-}
-
 #[tactic(auto, unfolding(crate::specs::Percentages::tranche_in))]
-fn parse_tranche(cell: &[u8]) -> Option<u8>
+fn parse_tranche(cell: &[u8]) -> Option<Tranche>
     ensures { result ≡ tranche_in cell.now }
 {
-    let tranche = number(cell, 1, 6)?;
-    Some(tranche as u8)
+    let tranche = number(cell, 0, u64::from(u8::MAX))?;
+    Tranche::try_from(tranche as u8).ok()
 }
 
 #[tactic(auto, unfolding(crate::specs::Percentages::percentage_in))]
-fn parse_percentage(cell: &[u8]) -> Option<u16>
+fn parse_percentage(cell: &[u8]) -> Option<MarginPercentage>
     ensures { result ≡ percentage_in cell.now }
 {
-    let percentage = number(cell, 0, u64::from(MarginPercentage::HIGHEST))?;
-    Some(percentage as u16)
+    let basis_points = number(cell, 0, u64::from(MarginPercentage::HIGHEST))?;
+    Some(MarginPercentage {
+        basis_points: basis_points as u16,
+    })
 }
 
 const TRANCHE: usize = 0;
@@ -36,10 +33,10 @@ const TRANCHE: usize = 0;
 const PCT: usize = 1;
 
 /// The kind of the rows of percentages.
-pub struct Percentages;
+pub struct PercentageRows;
 
-impl RowKind for Percentages {
-    type Row = PercentageRow;
+impl RowKind for PercentageRows {
+    type Row = Percentage;
 
     const MARK: [u8; 3] = *b"PAR";
 
@@ -66,8 +63,8 @@ impl RowKind for Percentages {
         }
     }
 
-    fn read(cells: &Cells<'_, '_>) -> Option<PercentageRow> {
-        Some(PercentageRow {
+    fn read(cells: &Cells<'_, '_>) -> Option<Percentage> {
+        Some(Percentage {
             tranche: parse_tranche(cells.cell(TRANCHE))?,
             percentage: parse_percentage(cells.cell(PCT))?,
         })

@@ -3,17 +3,11 @@ ghost use Rattle.std.specs.Prelude.{◌≡◌, codes};
 ghost use Rattle.std.proofs.Common.{rules};
 ghost use Rattle.rows.specs.Points.{term_in, rate_in, points};
 
+use curve::point::Point;
 use quantities::range::Rate;
 use sheet::cells::Cells;
 use sheet::kind::RowKind;
 use text::number::{number, signed_number};
-
-/// The rate at a term as it is handed.
-#[derive(Clone, Copy, PartialEq, Eq, Debug)]
-pub struct PointRow {
-    pub term: u16,
-    pub rate: i16,
-}
 
 #[tactic(auto, unfolding(crate::specs::Points::term_in))]
 fn parse_term(cell: &[u8]) -> Option<u16>
@@ -24,11 +18,13 @@ fn parse_term(cell: &[u8]) -> Option<u16>
 }
 
 #[tactic(auto, unfolding(crate::specs::Points::rate_in))]
-fn parse_rate(cell: &[u8]) -> Option<i16>
+fn parse_rate(cell: &[u8]) -> Option<Rate>
     ensures { result ≡ rate_in cell.now }
 {
-    let rate = signed_number(cell, i32::from(Rate::LOWEST), i32::from(Rate::HIGHEST))?;
-    Some(rate as i16)
+    let basis_points = signed_number(cell, i32::from(Rate::LOWEST), i32::from(Rate::HIGHEST))?;
+    Some(Rate {
+        basis_points: basis_points as i16,
+    })
 }
 
 const TERM: usize = 0;
@@ -36,10 +32,10 @@ const TERM: usize = 0;
 const RATE: usize = 1;
 
 /// The kind of the rows of points.
-pub struct Points;
+pub struct PointRows;
 
-impl RowKind for Points {
-    type Row = PointRow;
+impl RowKind for PointRows {
+    type Row = Point;
 
     const MARK: [u8; 3] = *b"CRV";
 
@@ -66,8 +62,8 @@ impl RowKind for Points {
         }
     }
 
-    fn read(cells: &Cells<'_, '_>) -> Option<PointRow> {
-        Some(PointRow {
+    fn read(cells: &Cells<'_, '_>) -> Option<Point> {
+        Some(Point {
             term: parse_term(cells.cell(TERM))?,
             rate: parse_rate(cells.cell(RATE))?,
         })

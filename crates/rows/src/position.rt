@@ -1,37 +1,16 @@
 //! The sheet of the positions.
 ghost use Rattle.std.specs.Prelude.{◌≡◌, codes};
 ghost use Rattle.std.proofs.Common.{rules};
-ghost use Rattle.rows.specs.Positions.{reference_in, side_in, block_in, block_of, titles_in, cash_in, positions};
+ghost use Rattle.rows.specs.Positions.{reference_in, side_in, block_in, titles_in, cash_in, positions};
 
 use crate::form::{parse_date, parse_isin};
-use account::line::{Block, Line, Side};
+use account::block::BlockName;
+use account::line::{Line, Side};
 use quantities::date::Date;
 use quantities::range::{Cash, Titles};
 use sheet::cells::Cells;
 use sheet::kind::RowKind;
 use text::number::number;
-
-/// The letters of the four blocks.
-#[derive(Clone, Copy, PartialEq, Eq, Debug)]
-pub enum BlockLetter {
-    T,
-    F,
-    H,
-    C,
-}
-
-impl BlockLetter {
-    fn block(self, date: Date) -> Block
-        ensures { result ≡ block_of self date }
-    {
-        match self {
-            BlockLetter::T => Block::Trade(date),
-            BlockLetter::F => Block::Failed(date),
-            BlockLetter::H => Block::Held(date),
-            BlockLetter::C => Block::CashOnly(date),
-        }
-    }
-}
 
 #[tactic(auto, unfolding(crate::specs::Positions::reference_in))]
 fn parse_reference(cell: &[u8]) -> Option<u32>
@@ -53,27 +32,27 @@ fn parse_side(cell: &[u8]) -> Option<Side>
 }
 
 #[tactic(auto, unfolding(crate::specs::Positions::block_in))]
-fn parse_block(cell: &[u8]) -> Option<BlockLetter>
+fn parse_block(cell: &[u8]) -> Option<BlockName>
     ensures { result ≡ block_in cell.now }
 {
     match cell {
-        b"T" => Some(BlockLetter::T),
-        b"F" => Some(BlockLetter::F),
-        b"H" => Some(BlockLetter::H),
-        b"C" => Some(BlockLetter::C),
+        b"T" => Some(BlockName::Trade),
+        b"F" => Some(BlockName::Failed),
+        b"H" => Some(BlockName::Held),
+        b"C" => Some(BlockName::CashOnly),
         _ => None,
     }
 }
 
 #[tactic(auto, unfolding(crate::specs::Positions::titles_in))]
-fn parse_titles(block: Option<BlockLetter>, cell: &[u8]) -> Option<u32>
+fn parse_titles(block: Option<BlockName>, cell: &[u8]) -> Option<u32>
     ensures { result ≡ titles_in block cell.now }
 {
     let titles = number(cell, 0, u64::from(Titles::MOST))?;
     // Guards: the block says which of the numbers fit.
     match block {
-        Some(BlockLetter::C) if titles > 0 => None,
-        Some(BlockLetter::T | BlockLetter::F | BlockLetter::H) if titles == 0 => None,
+        Some(BlockName::CashOnly) if titles > 0 => None,
+        Some(BlockName::Trade | BlockName::Failed | BlockName::Held) if titles == 0 => None,
         _ => Some(titles as u32),
     }
 }
@@ -100,9 +79,9 @@ const CASH: usize = 5;
 const DATE: usize = 6;
 
 /// The kind of the rows of lines.
-pub struct Positions;
+pub struct PositionRows;
 
-impl RowKind for Positions {
+impl RowKind for PositionRows {
     type Row = Line;
 
     const MARK: [u8; 3] = *b"POS";
@@ -151,7 +130,7 @@ impl RowKind for Positions {
             side,
             titles,
             cash,
-            block: block.block(date),
+            block: block.with_date(date),
         })
     }
 

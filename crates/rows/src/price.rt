@@ -4,31 +4,24 @@ ghost use Rattle.std.proofs.Common.{rules};
 ghost use Rattle.rows.specs.Prices.{price_in, prices};
 
 use crate::form::{parse_date, parse_isin};
-use quantities::date::Date;
-use quantities::isin::Isin;
+use market::price::Price;
 use quantities::range::UnitPrice;
 use sheet::cells::Cells;
 use sheet::kind::RowKind;
 use text::number::number;
 
-/// The price and the maturity of an ISIN as they are handed.
-#[derive(Clone, Copy, PartialEq, Eq, Debug)]
-pub struct PriceRow {
-    pub isin: Isin,
-    pub price: u32,
-    pub maturity: Date,
-}
-
 #[tactic(auto, unfolding(crate::specs::Prices::price_in))]
-fn parse_price(cell: &[u8]) -> Option<u32>
+fn parse_price(cell: &[u8]) -> Option<UnitPrice>
     ensures { result ≡ price_in cell.now }
 {
-    let price = number(
+    let millionths = number(
         cell,
         u64::from(UnitPrice::LOWEST),
         u64::from(UnitPrice::HIGHEST),
     )?;
-    Some(price as u32)
+    Some(UnitPrice {
+        millionths: millionths as u32,
+    })
 }
 
 const ISIN: usize = 0;
@@ -38,10 +31,10 @@ const PRICE: usize = 1;
 const MATURITY: usize = 2;
 
 /// The kind of the rows of prices.
-pub struct Prices;
+pub struct PriceRows;
 
-impl RowKind for Prices {
-    type Row = PriceRow;
+impl RowKind for PriceRows {
+    type Row = Price;
 
     const MARK: [u8; 3] = *b"PRC";
 
@@ -69,8 +62,8 @@ impl RowKind for Prices {
         }
     }
 
-    fn read(cells: &Cells<'_, '_>) -> Option<PriceRow> {
-        Some(PriceRow {
+    fn read(cells: &Cells<'_, '_>) -> Option<Price> {
+        Some(Price {
             isin: parse_isin(cells.cell(ISIN))?,
             price: parse_price(cells.cell(PRICE))?,
             maturity: parse_date(cells.cell(MATURITY))?,

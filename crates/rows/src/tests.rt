@@ -4,7 +4,11 @@ use crate::percentage::*;
 use crate::point::*;
 use crate::position::*;
 use crate::price::*;
+use account::block::Block;
 use account::line::*;
+use curve::point::Point;
+use market::percentage::Percentage;
+use market::price::Price;
 use quantities::isin::Isin;
 use sheet::input::Input;
 use sheet::kind::RowKind;
@@ -41,7 +45,7 @@ fn misfit<K: RowKind>(rt: &impl Alloc, head: &str, row: &str) -> Result<usize, A
 
 #[test]
 fn each_kind_reads_its_row(rt: HostRuntime) {
-    let day = first_row::<Days>(b"DAY;1\nCURVE;X;TODAY;NEXT;MODE\nL;;9000;9001;G\n");
+    let day = first_row::<DayRows>(b"DAY;1\nCURVE;X;TODAY;NEXT;MODE\nL;;9000;9001;G\n");
     assert_eq!(rt;
         day,
         Ok(Some(DayRow {
@@ -51,32 +55,13 @@ fn each_kind_reads_its_row(rt: HostRuntime) {
             curve: CurveShape::Sloping
         }))
     );
-    let percentage = first_row::<Percentages>(b"PAR;1\nPCT;TRANCHE\n200;4\n");
-    assert_eq!(rt;
-        percentage,
-        Ok(Some(PercentageRow {
-            tranche: 4,
-            percentage: 200
-        }))
-    );
-    let point = first_row::<Points>(b"CRV;1\nTERM;RATE\n364;-500\n");
-    assert_eq!(rt;
-        point,
-        Ok(Some(PointRow {
-            term: 364,
-            rate: -500
-        }))
-    );
-    let price = first_row::<Prices>(b"PRC;1\nMATURITY;PRICE;ISIN\n11000;1010000;ES0000001018\n");
-    assert_eq!(rt;
-        price,
-        Ok(Some(PriceRow {
-            isin: BOND,
-            price: 1010000,
-            maturity: 11000
-        }))
-    );
-    let line = first_row::<Positions>(
+    let percentage = first_row::<PercentageRows>(b"PAR;1\nPCT;TRANCHE\n200;4\n");
+    assert_eq!(rt; percentage, Ok(Percentage::new(4, 200).ok()));
+    let point = first_row::<PointRows>(b"CRV;1\nTERM;RATE\n364;-500\n");
+    assert_eq!(rt; point, Ok(Point::new(364, -500).ok()));
+    let price = first_row::<PriceRows>(b"PRC;1\nMATURITY;PRICE;ISIN\n11000;1010000;ES0000001018\n");
+    assert_eq!(rt; price, Ok(Price::new(BOND, 1010000, 11000).ok()));
+    let line = first_row::<PositionRows>(
         b"POS;1\nDATE;CASH;TITLES;BLOCK;SIDE;ISIN;REF\n9001;5;3;F;S;ES0000001018;7\n",
     );
     assert_eq!(rt;
@@ -105,7 +90,7 @@ fn days_end_where_they_should(rt: HostRuntime) -> Result<(), AllocError> {
         ("1;2;G;l", 4),
         ("1;2;G;", 4),
     ] {
-        assert_eq!(rt; misfit::<Days>(&rt, DAY, row)?, cell, "at {row}");
+        assert_eq!(rt; misfit::<DayRows>(&rt, DAY, row)?, cell, "at {row}");
     }
     Ok(())
 }
@@ -120,7 +105,7 @@ fn percentages_points_and_prices_end_where_they_should(rt: HostRuntime) -> Resul
         ("1;10001", 2),
         ("1;+1", 2),
     ] {
-        assert_eq!(rt; misfit::<Percentages>(&rt, PAR, row)?, cell, "at {row}");
+        assert_eq!(rt; misfit::<PercentageRows>(&rt, PAR, row)?, cell, "at {row}");
     }
     for (row, cell) in [
         ("0;-500", 0),
@@ -131,7 +116,7 @@ fn percentages_points_and_prices_end_where_they_should(rt: HostRuntime) -> Resul
         ("0;-0", 2),
         ("0;-01", 2),
     ] {
-        assert_eq!(rt; misfit::<Points>(&rt, CRV, row)?, cell, "at {row}");
+        assert_eq!(rt; misfit::<PointRows>(&rt, CRV, row)?, cell, "at {row}");
     }
     for (row, cell) in [
         ("ES0000001018;1;0", 0),
@@ -142,7 +127,7 @@ fn percentages_points_and_prices_end_where_they_should(rt: HostRuntime) -> Resul
         ("ES0000001018;2000001;0", 2),
         ("ES0000001018;1;65536", 3),
     ] {
-        assert_eq!(rt; misfit::<Prices>(&rt, PRC, row)?, cell, "at {row}");
+        assert_eq!(rt; misfit::<PriceRows>(&rt, PRC, row)?, cell, "at {row}");
     }
     Ok(())
 }
@@ -161,7 +146,7 @@ fn positions_end_where_they_should(rt: HostRuntime) -> Result<(), AllocError> {
         ("1;ES0000001018;B;T;1;1000000000001;0", 6),
         ("1;ES0000001018;B;T;1;0;65536", 7),
     ] {
-        assert_eq!(rt; misfit::<Positions>(&rt, POS, row)?, cell, "at {row}");
+        assert_eq!(rt; misfit::<PositionRows>(&rt, POS, row)?, cell, "at {row}");
     }
     Ok(())
 }
@@ -182,7 +167,7 @@ fn titles_go_by_the_block(rt: HostRuntime) -> Result<(), AllocError> {
     ] {
         let row = format!(in rt.alloc(); "{cells};1;ES0000001018;B;0;0")?;
         assert_eq!(rt;
-            misfit::<Positions>(&rt, head, row.as_str())?,
+            misfit::<PositionRows>(&rt, head, row.as_str())?,
             cell,
             "at {cells}"
         );

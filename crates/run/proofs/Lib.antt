@@ -1,9 +1,6 @@
-pub mod Points
-pub mod Made
-pub mod Parts
 pub mod Put
 pub mod Sheets
-pub mod Told
+pub mod SheetRefusals
 pub mod RowKinds
 pub mod Loaded
 pub mod Promise

@@ -1,5 +1,5 @@
 pub mod Refusals
-pub mod Through
+pub mod KeptSheets
 pub mod Kept
 pub mod Days
 pub mod Runs

@@ -1,6 +1,7 @@
 //! What keeps the rows of a sheet.
-ghost use Rattle.std.specs.Prelude.{◌≡◌, Result, Ok, Err, MatchResult};
-ghost use Rattle.run.specs.Refusals.{Turned, told_row};
+ghost use Rattle.std.specs.Prelude.{◌≡◌, Result};
+ghost use Rattle.run.specs.Refusals.{RowRefusal};
+ghost use Rattle.run.specs.KeptSheets.{Keeps};
 
 use account::call::LineRefusal;
 
@@ -10,7 +11,7 @@ pub trait Keeper<R> {
 
     ghost kept: { Self → Kept };
 
-    ghost keeping: { Kept → R → Result Kept Turned };
+    ghost keeping: { Kept → R → Result Kept RowRefusal };
 
     /// What no row changes.
     ghost Frame: { Type 0 };
@@ -20,5 +21,6 @@ pub trait Keeper<R> {
     /// Keeps one more row; a row that is refused changes nothing.
     fn keep(&mut self, row: R) -> Result<(), LineRefusal>
         ensures frame { frame self.new ≡ frame self.old }
-        ensures answer { MatchResult result (λ _. keeping (kept self.old) row ≡ Ok (kept self.new)) (λ e. (keeping (kept self.old) row ≡ Err (told_row e)) × (kept self.new ≡ kept self.old)) };
+        ensures answer { let due = keeping (kept self.old) row in
+            Keeps due (kept self.old) (kept self.new) result };
 }

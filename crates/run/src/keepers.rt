@@ -1,6 +1,6 @@
 //! What keeps the rows of the five sheets.
 ghost use Rattle.std.specs.Prelude.{◌≡◌};
-ghost use Rattle.run.specs.Refusals.{referred};
+ghost use Rattle.run.specs.Refusals.{answer_with_reference};
 
 use account::call::LineRefusal;
 use quantities::refusal::Refusal;
@@ -10,9 +10,9 @@ pub mod lines;
 pub mod points;
 pub mod quotes;
 
-// An answer to a row, with the reference by which the row is told: 0 where it has none.
-fn referred(reference: u32, answer: Result<(), Refusal>) -> Result<(), LineRefusal>
-    ensures { result ≡ referred reference answer }
+// An answer to a row, with the reference by which the row is reported: 0 where it has none.
+fn answer_with_reference(reference: u32, answer: Result<(), Refusal>) -> Result<(), LineRefusal>
+    ensures { result ≡ answer_with_reference reference answer }
 {
     answer.map_err(|refusal| LineRefusal::of_line(reference, refusal))
 }

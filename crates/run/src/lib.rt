@@ -5,7 +5,7 @@ pub mod example;
 mod keeper;
 mod keepers;
 pub mod laws;
+mod read_sheet;
 pub mod refusal;
 pub mod run;
 mod state;
-mod through;

@@ -1,6 +1,6 @@
 //! Why a run is refused, and where.
 ghost use Rattle.std.specs.Prelude.{◌≡◌, Some};
-ghost use Rattle.run.specs.Refusals.{refusal_text, of_run, of_sheet, of_book, of_margin, told_row, told_sheet, told_refusal};
+ghost use Rattle.run.specs.Refusals.{refusal_text, refusal_of_run, refusal_of_sheet, refusal_of_book, refusal_of_margin, row_refusal, placed_sheet_refusal, placed_refusal};
 ghost use Rattle.quantities.specs.Refusals.{number};
 
 use account::call::LineRefusal;
@@ -14,9 +14,11 @@ use std::fmt;
 pub enum Place {
     /// The input or the statement as a whole.
     Whole,
-    /// A line of a sheet, counted from 1 over the whole input, and its cell, counted from 1; 0 where it is about no one cell.
+    /// A line of a sheet, counted from 1 over the whole input, and its cell, counted from 1; 0
+    /// where it is about no one cell.
     Sheet { line: usize, cell: usize },
-    /// A row that the book does not take: its line, and the reference of a position, 0 of any other row.
+    /// A row that the book does not take: its line, and the reference of a position, 0 of any other
+    /// row.
     Book { line: usize, reference: u32 },
     /// The line of a reference, which has no margin.
     Margin { reference: u32 },
@@ -32,7 +34,7 @@ pub struct RunRefusal {
 impl RunRefusal {
     /// What is refused of the input or the statement as a whole.
     pub fn whole(refusal: Refusal) -> RunRefusal
-        ensures { told_refusal result ≡ of_run (number refusal) }
+        ensures { placed_refusal result ≡ refusal_of_run (number refusal) }
     {
         RunRefusal {
             refusal,
@@ -42,7 +44,7 @@ impl RunRefusal {
 
     /// What is refused of a line of a sheet, and of no one cell.
     pub fn of_sheet(refusal: Refusal, line: usize) -> RunRefusal
-        ensures { told_refusal result ≡ of_sheet (number refusal) line 0 }
+        ensures { placed_refusal result ≡ refusal_of_sheet (number refusal) line 0 }
     {
         RunRefusal {
             refusal,
@@ -52,7 +54,8 @@ impl RunRefusal {
 
     /// A row on a line that is turned away.
     pub fn of_row(line: usize, turned: LineRefusal) -> RunRefusal
-        ensures { let row = told_row turned in told_refusal result ≡ of_book row.number line row.reference }
+        ensures { let row = row_refusal turned in
+            placed_refusal result ≡ refusal_of_book row.number line row.reference }
     {
         RunRefusal {
             refusal: turned.refusal,
@@ -65,7 +68,8 @@ impl RunRefusal {
 
     /// A line that has no margin.
     pub fn of_margin(unmargined: LineRefusal) -> RunRefusal
-        ensures { let row = told_row unmargined in told_refusal result ≡ of_margin row.number row.reference }
+        ensures { let line = row_refusal unmargined in
+            placed_refusal result ≡ refusal_of_margin line.number line.reference }
     {
         RunRefusal {
             refusal: unmargined.refusal,
@@ -77,14 +81,14 @@ impl RunRefusal {
 
     /// The number of the refusal.
     pub fn number(&self) -> u8
-        ensures { result ≡ (told_refusal self.now).number }
+        ensures { result ≡ (placed_refusal self.now).number }
     {
         self.refusal.number()
     }
 
     /// The layer that refuses: 0 the run, 1 its sheets, 2 the book, 3 the margin.
     pub fn layer(&self) -> u8
-        ensures { result ≡ (told_refusal self.now).layer }
+        ensures { result ≡ (placed_refusal self.now).layer }
     {
         match self.place {
             Place::Whole => 0,
@@ -96,7 +100,7 @@ impl RunRefusal {
 
     /// The line that is refused, 0 where it is about no one line.
     pub fn line(&self) -> usize
-        ensures { result ≡ (told_refusal self.now).line }
+        ensures { result ≡ (placed_refusal self.now).line }
     {
         match self.place {
             Place::Sheet { line, .. } | Place::Book { line, .. } => line,
@@ -106,7 +110,7 @@ impl RunRefusal {
 
     /// The cell that is refused, 0 where it is about no one cell.
     pub fn cell(&self) -> usize
-        ensures { result ≡ (told_refusal self.now).cell }
+        ensures { result ≡ (placed_refusal self.now).cell }
     {
         match self.place {
             Place::Sheet { cell, .. } => cell,
@@ -116,7 +120,7 @@ impl RunRefusal {
 
     /// The reference that is refused, 0 where it is about no one line of the account.
     pub fn reference(&self) -> u32
-        ensures { result ≡ (told_refusal self.now).reference }
+        ensures { result ≡ (placed_refusal self.now).reference }
     {
         match self.place {
             Place::Book { reference, .. } | Place::Margin { reference } => reference,
@@ -126,7 +130,7 @@ impl RunRefusal {
 }
 
 impl From<SheetRefusal> for RunRefusal {
-    ghost from_gives = { λ sheet run. told_refusal run ≡ told_sheet sheet };
+    ghost from_gives = { λ sheet run. placed_refusal run ≡ placed_sheet_refusal sheet };
 
     fn from(sheet: SheetRefusal) -> RunRefusal {
         RunRefusal {
@@ -141,7 +145,7 @@ impl From<SheetRefusal> for RunRefusal {
 
 /// The refusal as a line of numbers: its own, the layer, line, cell and reference.
 impl fmt::Display for RunRefusal {
-    ghost output = { λ r. Some (refusal_text (told_refusal r)) };
+    ghost output = { λ r. Some (refusal_text (placed_refusal r)) };
 
     fn fmt<W: fmt::Write>(&self, f: &mut fmt::Formatter<W>) -> fmt::Result {
         let number = self.number();

@@ -1,9 +1,9 @@
 //! The statement of an account whose sheets are read.
 ghost use Rattle.std.specs.Prelude.{◌≤◌, length};
 ghost use Rattle.book.specs.Books.{lines_of, room_for};
-ghost use Rattle.run.specs.Days.{row_of};
-ghost use Rattle.run.specs.Runs.{setting_of};
-ghost use Rattle.run.specs.Answers.{Ran, Stated, account_of, stated_for};
+ghost use Rattle.run.specs.Days.{account_of_book};
+ghost use Rattle.run.specs.Runs.{account_outcome};
+ghost use Rattle.run.specs.Answers.{WritesText, StatesAccount};
 ghost use Rattle.valuation.specs.Statements.{States};
 
 use crate::keepers::day::KeptDay;
@@ -19,7 +19,7 @@ use netting::{Gross, Net};
 use quantities::isin::Isin;
 use rows::day::{CurveShape, Mode};
 use statement::text::write_statement;
-use valuation::margin::Statement;
+use valuation::stated_margin::StatedMargin;
 
 // How many lines most accounts have at most.
 const FEW_LINES: usize = 64;
@@ -38,8 +38,9 @@ fn margin_by_day(
     points: &Points<'_>,
     book: &Book<'_, '_, '_>,
     rows: &mut [Row],
-) -> Result<Statement, LineRefusal>
-    ensures { States (setting_of (row_of day.now) book.now.market.now points.now.records) (lines_of book.now) rows.old rows.new result }
+) -> Result<StatedMargin, LineRefusal>
+    ensures { let account = account_of_book day.now points.now.records book.now in
+        States account.setting account.standing rows.old rows.new result }
 {
     let step = StepCurve { points };
     let sloping = SlopingCurve { points };
@@ -59,7 +60,7 @@ fn stated_rows<'r>(
     places: &'r mut [Row],
 ) -> Result<(Margin, &'r [Row]), LineRefusal>
     requires { length (lines_of book.now) ≤ length places.old }
-    ensures { Stated (account_of (row_of day.now) book.now.market.now points.now.records (lines_of book.now)) result }
+    ensures { StatesAccount (account_of_book day.now points.now.records book.now) result }
 {
     let given = margin_by_day(day, points, book, places)?;
     Ok((given.margin, &places[..given.rows]))
@@ -73,7 +74,8 @@ fn state_within<const PLACES: usize>(
     buffer: &mut [u8],
 ) -> Result<usize, RunRefusal>
     requires { (length (lines_of book.now) ≤ PLACES) × (PLACES ≤ 1024) }
-    ensures { Ran (stated_for (length buffer.old) (account_of (row_of day.now) book.now.market.now points.now.records (lines_of book.now))) result buffer.old buffer.new }
+    ensures { let account = account_of_book day.now points.now.records book.now in
+        WritesText (account_outcome (length buffer.old) account) result buffer.old buffer.new }
 {
     let mut places = [NO_ROW; PLACES];
     // an account has at most as many rows as lines
@@ -90,7 +92,8 @@ pub(crate) fn state(
     buffer: &mut [u8],
 ) -> Result<usize, RunRefusal>
     requires { room_for book.now ≤ 1024 }
-    ensures { Ran (stated_for (length buffer.old) (account_of (row_of day.now) book.now.market.now points.now.records (lines_of book.now))) result buffer.old buffer.new }
+    ensures { let account = account_of_book day.now points.now.records book.now in
+        WritesText (account_outcome (length buffer.old) account) result buffer.old buffer.new }
 {
     // places are filled before they are used, so a small account has few of them
     if book.lines().len() <= FEW_LINES {

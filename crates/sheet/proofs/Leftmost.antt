@@ -4,18 +4,18 @@ use Rattle.std.specs.List.{list_all}
 use Rattle.std.proofs.lemmas.Bool.{false≢true}
 use Rattle.std.proofs.lemmas.List.{drop_more}
 use Rattle.std.proofs.lemmas.Option.{none-some}
-use Rattle.sheet.specs.Sheets.{lesser, leftmost}
+use Rattle.sheet.specs.Sheets.{least_place, leftmost}
 
 -- the lesser of a place that was found and what the further columns give
 abbrev pub least : Option ℕ → Option ℕ → Option ℕ
 least None further = further
-least (Some place) further = Some (lesser place further)
+least (Some place) further = Some (least_place place further)
 
-keeps : (left place : ℕ) (further : Option ℕ) → left ≤ place → lesser left (Some (lesser place further)) ≡ lesser left further
+keeps : (left place : ℕ) (further : Option ℕ) → left ≤ place → least_place left (Some (least_place place further)) ≡ least_place left further
 keeps left place None l = omega arith
 keeps left place (Some q) l = omega arith
 
-changes : (left place : ℕ) (further : Option ℕ) → place ≤ left → lesser left (Some (lesser place further)) ≡ lesser place further
+changes : (left place : ℕ) (further : Option ℕ) → place ≤ left → least_place left (Some (least_place place further)) ≡ least_place place further
 changes left place None l = omega arith
 changes left place (Some q) l = omega arith
 

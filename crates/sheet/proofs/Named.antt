@@ -1,16 +1,17 @@
 -- The search for a name among names, one by one.
-use Rattle.std.proofs.Common.{◌≡◌, ℕ, ◌+◌, ◌<◌, true, false, cond, eqb, not, List, ◌∷◌, length, get_or, map, drop, Option, Some, None, Bor, sym, ◌∙◌, arith}
+use Rattle.std.proofs.Common.{◌≡◌, ℕ, ◌+◌, ◌<◌, true, false, cond, eqb, not, List, ◌∷◌, length, get_or, drop, Option, Some, None, Bor, sym, ◌∙◌, arith}
 use Rattle.std.specs.Str.{bytes_eq}
 use Rattle.std.proofs.lemmas.Bool.{not-true, not-false}
 use Rattle.std.proofs.lemmas.Bool.Decides.{nat_tests}
 use Rattle.std.proofs.lemmas.List.{at_drop_more}
 use Rattle.text.specs.Cells.{Cell}
-use Rattle.sheet.specs.Sheets.{times, place_of}
+use Rattle.sheet.specs.Columns.{texts}
+use Rattle.sheet.specs.Sheets.{count_of, place_of}
 
 -- what the names from number i on make of the place that was found before
 abbrev pub onwards : Cell → Option ℕ → ℕ → List Cell → Option ℕ
-onwards name (Some place) i names = cond (eqb (times name names) 0) (Some place) None
-onwards name None i names = cond (eqb (times name names) 1) (Some (i + place_of name names)) None
+onwards name (Some place) i names = cond (eqb (count_of name names) 0) (Some place) None
+onwards name None i names = cond (eqb (count_of name names) 1) (Some (i + place_of name names)) None
 
 another : (name c : Cell) (cs : List Cell) (i : ℕ) (found : Option ℕ) → bytes_eq name c ≡ false → onwards name found i (c ∷ cs) ≡ onwards name found (i + 1) cs
 another name c cs i (Some place) e = rw e (grind (arith, nat_tests))
@@ -21,9 +22,6 @@ first name c cs i e = rw e (grind (arith, nat_tests))
 
 again : (name c : Cell) (cs : List Cell) (i place : ℕ) → bytes_eq name c ≡ true → onwards name (Some place) i (c ∷ cs) ≡ None
 again name c cs i place e = rw e (grind (arith, nat_tests))
-
-abbrev pub texts : List (Bor Cell) → List Cell
-texts names = map (λ name. name.now) names
 
 module _ (name : Cell) (names : List (Bor Cell)) (i : ℕ) (d : Bor Cell) (r : Option ℕ) (l : i < length names) where
   abbrev At : Option ℕ → ℕ → Type 0

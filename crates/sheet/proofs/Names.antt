@@ -6,14 +6,14 @@ use Rattle.std.proofs.lemmas.List.{get_or-map, length-map}
 use Rattle.std.proofs.lemmas.Grind.{get_or_tail}
 use Rattle.std.proofs.lemmas.Slice.Eq.{bytes_eq-Decides}
 use Rattle.text.specs.Cells.{Cell}
-use Rattle.sheet.specs.Kinds.{numbered}
-use Rattle.sheet.specs.Sheets.{times, place_of, are_named, are_columns, places_of}
+use Rattle.sheet.specs.Kinds.{cell_at}
+use Rattle.sheet.specs.Sheets.{count_of, place_of, are_named, are_columns, places_of}
 use Rattle.sheet.specs.Laws.{EachNameStands, ReadByName}
 
-once : (needed names : List Cell) (i : ℕ) → are_named needed names ≡ true → i < length needed → times (numbered needed i) names ≡ 1
+once : (needed names : List Cell) (i : ℕ) → are_named needed names ≡ true → i < length needed → count_of (cell_at needed i) names ≡ 1
 once [] names i e l = absurd (omega arith)
-once (n ∷ ns) names zero e l = eqb-true _ _ (and_parts (eqb (times n names) 1) (are_named ns names) e).0
-once (n ∷ ns) names (suc i) e l = once ns names i (and_parts (eqb (times n names) 1) (are_named ns names) e).1 (omega arith)
+once (n ∷ ns) names zero e l = eqb-true _ _ (and_parts (eqb (count_of n names) 1) (are_named ns names) e).0
+once (n ∷ ns) names (suc i) e l = once ns names i (and_parts (eqb (count_of n names) 1) (are_named ns names) e).1 (omega arith)
 
 module _ (name n : Cell) where
   is : bytes_eq name n ≡ true → n ≡ name
@@ -23,37 +23,37 @@ module _ (name n : Cell) where
   is_not t e = absurd (false≢true (sym t ∙ (bytes_eq-Decides name n).1 (sym e)))
 
 -- a name that stands at a place stands at least once
-some_times : (name : Cell) (names : List Cell) (p : ℕ) → p < length names → numbered names p ≡ name → 1 ≤ times name names
+some_times : (name : Cell) (names : List Cell) (p : ℕ) → p < length names → cell_at names p ≡ name → 1 ≤ count_of name names
 some_times name [] p l e = absurd (omega arith)
 some_times name (n ∷ names) p l e = further (bytes_eq name n) p refl l e (some_times name names)
   where
-    further : (b : Bool) (q : ℕ) → bytes_eq name n ≡ b → q < length (n ∷ names) → numbered (n ∷ names) q ≡ name → ((k : ℕ) → k < length names → numbered names k ≡ name → 1 ≤ times name names) → 1 ≤ cond b (1 + times name names) (times name names)
+    further : (b : Bool) (q : ℕ) → bytes_eq name n ≡ b → q < length (n ∷ names) → cell_at (n ∷ names) q ≡ name → ((k : ℕ) → k < length names → cell_at names k ≡ name → 1 ≤ count_of name names) → 1 ≤ cond b (1 + count_of name names) (count_of name names)
     further true q t l e rest = omega arith
     further false zero t l e rest = is_not name n t e
     further false (suc q) t l e rest = rest q (omega arith) e
 
 -- a name that stands once stands at its place
-stands : (name : Cell) (names : List Cell) → times name names ≡ 1 → (place_of name names < length names) × (numbered names (place_of name names) ≡ name)
+stands : (name : Cell) (names : List Cell) → count_of name names ≡ 1 → (place_of name names < length names) × (cell_at names (place_of name names) ≡ name)
 stands name [] e = absurd (omega arith)
 stands name (n ∷ names) e = further (bytes_eq name n) refl e (stands name names)
   where
-    further : (b : Bool) → bytes_eq name n ≡ b → cond b (1 + times name names) (times name names) ≡ 1 → (times name names ≡ 1 → (place_of name names < length names) × (numbered names (place_of name names) ≡ name)) → let p = cond b 0 (1 + place_of name names) in (p < length (n ∷ names)) × (numbered (n ∷ names) p ≡ name)
+    further : (b : Bool) → bytes_eq name n ≡ b → cond b (1 + count_of name names) (count_of name names) ≡ 1 → (count_of name names ≡ 1 → (place_of name names < length names) × (cell_at names (place_of name names) ≡ name)) → let p = cond b 0 (1 + place_of name names) in (p < length (n ∷ names)) × (cell_at (n ∷ names) p ≡ name)
     further true t e rest = (omega arith, is name n t)
     further false t e rest =
         let s = rest e in
         let at : (1 + place_of name names) - 1 ≡ place_of name names = omega arith in
-        (omega arith, get_or_tail n names (1 + place_of name names) [] (omega arith) ∙ (ap (numbered names) at ∙ s.1))
+        (omega arith, get_or_tail n names (1 + place_of name names) [] (omega arith) ∙ (ap (cell_at names) at ∙ s.1))
 
 -- and nowhere else
-nowhere_else : (name : Cell) (names : List Cell) (p : ℕ) → times name names ≡ 1 → p < length names → numbered names p ≡ name → place_of name names ≡ p
+nowhere_else : (name : Cell) (names : List Cell) (p : ℕ) → count_of name names ≡ 1 → p < length names → cell_at names p ≡ name → place_of name names ≡ p
 nowhere_else name [] p o l e = absurd (omega arith)
 nowhere_else name (n ∷ names) p o l e =
     further (bytes_eq name n) p refl o l e (nowhere_else name names)
   where
-    further : (b : Bool) (q : ℕ) → bytes_eq name n ≡ b → cond b (1 + times name names) (times name names) ≡ 1 → q < length (n ∷ names) → numbered (n ∷ names) q ≡ name → ((k : ℕ) → times name names ≡ 1 → k < length names → numbered names k ≡ name → place_of name names ≡ k) → cond b 0 (1 + place_of name names) ≡ q
+    further : (b : Bool) (q : ℕ) → bytes_eq name n ≡ b → cond b (1 + count_of name names) (count_of name names) ≡ 1 → q < length (n ∷ names) → cell_at (n ∷ names) q ≡ name → ((k : ℕ) → count_of name names ≡ 1 → k < length names → cell_at names k ≡ name → place_of name names ≡ k) → cond b 0 (1 + place_of name names) ≡ q
     further true zero t o l e rest = refl
     further true (suc q) t o l e rest =
-        let more : 1 ≤ times name names = some_times name names q (omega arith) e in
+        let more : 1 ≤ count_of name names = some_times name names q (omega arith) e in
         absurd (omega arith)
     further false zero t o l e rest = is_not name n t e
     further false (suc q) t o l e rest = let r = rest q o (omega arith) e in omega (arith, r)
@@ -63,12 +63,12 @@ named needed names e = (and_parts (leb (length names) 32) (are_named needed name
 
 pub each_name_stands : EachNameStands
 each_name_stands needed names i e l =
-    let s = stands (numbered needed i) names (once needed names i (named needed names e) l) in
-    (place_of (numbered needed i) names, (s.0, s.1))
+    let s = stands (cell_at needed i) names (once needed names i (named needed names e) l) in
+    (place_of (cell_at needed i) names, (s.0, s.1))
 
 pub read_by_name : ReadByName
 read_by_name needed names cs i p e l m h =
-    let at = nowhere_else (numbered needed i) names p (once needed names i (named needed names e) l) m h in
+    let at = nowhere_else (cell_at needed i) names p (once needed names i (named needed names e) l) m h in
     let places = places_of needed names in
     let n : i < length places = omega (arith, length-map needed (λ name. place_of name names)) in
-    get_or-map (numbered cs) places i 0 [] n ∙ ap (numbered cs) (get_or-map (λ name. place_of name names) needed i [] 0 l ∙ at)
+    get_or-map (cell_at cs) places i 0 [] n ∙ ap (cell_at cs) (get_or-map (λ name. place_of name names) needed i [] 0 l ∙ at)

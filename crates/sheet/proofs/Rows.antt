@@ -7,9 +7,9 @@ use Rattle.std.proofs.lemmas.Option.{none-some, same_Some}
 use Rattle.text.specs.Cells.{Cell, cells}
 use Rattle.quantities.specs.declared.refusal.Refusal.TheVariants.{CellCount, Value}
 use Rattle.sheet.specs.declared.refusal.SheetRefusal.{SheetRefusal}
-use Rattle.sheet.specs.Kinds.{Kind, numbered}
-use Rattle.sheet.specs.Sheets.{Begun, place_of, are_columns, is_top, under_top, lesser, leftmost, row_if, under}
-use Rattle.sheet.specs.Laws.{HasNames, OpenedHasNames, AcceptedRows, Leftmost, LeftmostTold}
+use Rattle.sheet.specs.Kinds.{SheetKind, cell_at}
+use Rattle.sheet.specs.Sheets.{OpenSheet, place_of, are_columns, is_top, open_at_top, least_place, leftmost, row_if, needed_cells}
+use Rattle.sheet.specs.Laws.{HasNames, OpenedHasNames, AcceptedRows, Leftmost, LeftmostReported}
 use Rattle.sheet.proofs.Leftmost.{none_misfits}
 
 module _ {X E : Type 0} where
@@ -58,7 +58,7 @@ least (false ∷ fs) (q ∷ ps) p l e = among (leftmost fs ps) refl e (least fs 
         beside zero m = absurd (omega arith)
         beside (suc j) m = further j m
 
-    among : (o : Option ℕ) → leftmost fs ps ≡ o → Some (lesser q o) ≡ Some p → ((r : ℕ) → length fs ≤ length ps → leftmost fs ps ≡ Some r → (i : ℕ) × Least fs ps r i) → (i : ℕ) × Least (false ∷ fs) (q ∷ ps) p i
+    among : (o : Option ℕ) → leftmost fs ps ≡ o → Some (least_place q o) ≡ Some p → ((r : ℕ) → length fs ≤ length ps → leftmost fs ps ≡ Some r → (i : ℕ) × Least fs ps r i) → (i : ℕ) × Least (false ∷ fs) (q ∷ ps) p i
     among None o e rest =
         here (sym (same_Some _ _ e)) (λ j m. all_at fs j (none_misfits fs ps (omega arith) o))
     among (Some r) o e rest =
@@ -81,37 +81,37 @@ if_row : {Row : Type 0} (o : Option ℕ) (row : Row) (line : ℕ) (y : Row) → 
 if_row None row line y h = (refl, cc)
 if_row (Some p) row line y h = cc
 
-module _ {Row : Type 0} (kind : Kind Row) where
+module _ {Row : Type 0} (kind : SheetKind Row) where
   pub opened_has_names : OpenedHasNames kind
   opened_has_names left b e = go left.lines refl e
     where
-      go : (ls : List (List ℕ)) → left.lines ≡ ls → under_top kind ls left ≡ Ok b → (top : List ℕ) × ((names : List ℕ) × ((left.lines ≡ top ∷ (names ∷ b.left.lines)) × HasNames kind (cells names) b))
+      go : (ls : List (List ℕ)) → left.lines ≡ ls → open_at_top kind ls left ≡ Ok b → (top : List ℕ) × ((names : List ℕ) × ((left.lines ≡ top ∷ (names ∷ b.left.lines)) × HasNames kind (cells names) b))
       go [] h e = cc
       go (top ∷ []) h e = not_ok _ b (if_ok (is_top kind.mark (cells top)) _ _ b e).1
       go (top ∷ (names ∷ ls)) h e =
           let t = if_ok (is_top kind.mark (cells top)) _ _ b e in
           let n = if_ok (are_columns kind.needed (cells names)) _ _ b t.1 in
           let is = same_ok _ _ n.1 in
-          (top, (names, (h ∙ ap (λ (x : Begun). top ∷ (names ∷ x.left.lines)) is, record { named = n.0; places_are = sym (ap (λ (x : Begun). x.places) is); width_is = sym (ap (λ (x : Begun). x.width) is) })))
+          (top, (names, (h ∙ ap (λ (x : OpenSheet). top ∷ (names ∷ x.left.lines)) is, record { named = n.0; places_are = sym (ap (λ (x : OpenSheet). x.places) is); width_is = sym (ap (λ (x : OpenSheet). x.width) is) })))
 
   module _ (judged : (cell : ℕ → Cell) → length (kind.fits cell) ≡ length kind.needed) where
-    enough : (names : List Cell) (b : Begun) (cs : List Cell) → HasNames kind names b → length (kind.fits (numbered (under b.places cs))) ≤ length b.places
+    enough : (names : List Cell) (b : OpenSheet) (cs : List Cell) → HasNames kind names b → length (kind.fits (cell_at (needed_cells b.places cs))) ≤ length b.places
     enough names b cs h =
-        omega (arith, judged (numbered (under b.places cs)), ap length h.places_are, length-map kind.needed (λ name. place_of name names))
+        omega (arith, judged (cell_at (needed_cells b.places cs)), ap length h.places_are, length-map kind.needed (λ name. place_of name names))
 
     pub accepted_rows : AcceptedRows kind
     accepted_rows names b cs row h e =
-        let cell = numbered (under b.places cs) in
+        let cell = cell_at (needed_cells b.places cs) in
         let t = if_ok (eqb (length cs) b.width) _ _ row e in
         let r = if_row (leftmost (kind.fits cell) b.places) (kind.row cell) b.left.line row t.1 in
         let all = none_misfits (kind.fits cell) b.places (enough names b cs h) r.0 in
         record { count = eqb-true _ _ t.0 ∙ h.width_is; fit = λ i l. all_at (kind.fits cell) i all; made = sym r.1 }
 
-    pub leftmost_told : LeftmostTold kind
-    leftmost_told names b cs e h is v = go (eqb (length cs) b.width) is
+    pub leftmost_reported : LeftmostReported kind
+    leftmost_reported names b cs e h is v = go (eqb (length cs) b.width) is
       where
         cell : ℕ → Cell
-        cell = numbered (under b.places cs)
+        cell = cell_at (needed_cells b.places cs)
 
         go : (t : Bool) → cond t (row_if (leftmost (kind.fits cell) b.places) (kind.row cell) b.left.line) (Err record { refusal = CellCount; line = b.left.line; cell = 0 }) ≡ Err e → (i : ℕ) × Leftmost kind b cs e.cell i
         go true is =
@@ -121,7 +121,7 @@ module _ {Row : Type 0} (kind : Kind Row) where
               s.0,
               record {
                 needed = omega (arith, judged cell);
-                told = r.1.1 ∙ ap (λ p. p + 1) s.1.place;
+                reported = r.1.1 ∙ ap (λ p. p + 1) s.1.place;
                 misfit = s.1.misfit;
                 left_fit = λ j l m. s.1.left_fit j (let k = s.1.place in omega arith);
               },

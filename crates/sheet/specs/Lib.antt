@@ -1,4 +1,4 @@
 pub mod Kinds
 pub mod Sheets
-pub mod Found
+pub mod Columns
 pub mod Laws

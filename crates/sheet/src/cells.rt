@@ -1,9 +1,10 @@
 //! The cells of a row, by the columns that its kind needs.
-ghost use Rattle.std.specs.Prelude.{◌≡◌, ◌<◌, ◌≤◌, length, map, take, MatchOption};
+ghost use Rattle.std.specs.Prelude.{◌≡◌, ◌<◌, ◌≤◌, length, take, MatchOption};
 ghost use Rattle.text.specs.Cells.{cells};
 ghost use Rattle.text.specs.Ends.{Ends};
-ghost use Rattle.sheet.specs.Kinds.{numbered};
-ghost use Rattle.sheet.specs.Sheets.{under};
+ghost use Rattle.sheet.specs.Kinds.{cell_at};
+ghost use Rattle.sheet.specs.Columns.{texts};
+ghost use Rattle.sheet.specs.Sheets.{needed_cells};
 
 use std::marker::Model;
 use text::cell::next_cell;
@@ -23,11 +24,11 @@ impl<'r, 'a> Model for Cells<'r, 'a> {
     ghost use Rattle.std.specs.Prelude.{List, ℕ};
     ghost use Rattle.text.specs.Cells.{cells};
     ghost use Rattle.text.specs.Ends.{Ends};
-    ghost use Rattle.sheet.specs.Sheets.{under};
+    ghost use Rattle.sheet.specs.Sheets.{needed_cells};
 
     ghost Value = { List (List ℕ) };
 
-    ghost view = { λ row. under row.places.now (cells row.line.now) };
+    ghost view = { λ row. needed_cells row.places.now (cells row.line.now) };
 
     ghost invariant = { λ row. Ends row.line.now row.ends.now };
 }
@@ -36,14 +37,14 @@ impl<'r, 'a> Cells<'r, 'a> {
     /// The cells of a line that stand at the places.
     pub(crate) fn new(line: &'a [u8], ends: &'r [usize], places: &'r [u8]) -> Self
         requires { Ends line.now ends.now }
-        ensures { result ≡ under places.now (cells line.now) }
+        ensures { result ≡ needed_cells places.now (cells line.now) }
     {
         Cells { line, ends, places }
     }
 
     /// The cell of a needed column; empty where the kind has no such column.
     pub fn cell(&self, column: usize) -> &'a [u8]
-        ensures { result.now ≡ numbered self.now column }
+        ensures { result.now ≡ cell_at self.now column }
     {
         let Some(&place) = self.places.get(column) else {
             return &[];
@@ -67,7 +68,8 @@ pub(crate) fn split<'r, 'a>(
     line: &'a [u8],
     room: &'r mut [&'a [u8]; MOST_COLUMNS],
 ) -> Option<&'r [&'a [u8]]>
-    ensures { MatchOption result (32 < length (cells line.now)) (λ r. (length r.now ≤ 32) × (map (λ cell. cell.now) r.now ≡ cells line.now)) }
+    ensures { MatchOption result (32 < length (cells line.now))
+        (λ r. (length r.now ≤ 32) × (texts r.now ≡ cells line.now)) }
 {
     let mut rest = line;
     for place in 0..MOST_COLUMNS {

@@ -1,15 +1,15 @@
 //! The columns that a sheet's kind needs, found by their names.
-ghost use Rattle.std.specs.Prelude.{◌≡◌, ◌<◌, ◌≤◌, true, false, length, map, take, IfSome, MatchOption};
+ghost use Rattle.std.specs.Prelude.{◌≡◌, ◌<◌, ◌≤◌, length, take, IsFalse, IfSome, MatchOption};
 ghost use Rattle.text.specs.Cells.{cells};
-ghost use Rattle.sheet.specs.Sheets.{are_named, are_columns, places_of};
-ghost use Rattle.sheet.specs.Found.{one_place, Finds};
+ghost use Rattle.sheet.specs.Sheets.{are_columns};
+ghost use Rattle.sheet.specs.Columns.{texts, one_place, PlacesIfNamed, HasColumns};
 
 use crate::cells::{MOST_COLUMNS, split};
 use crate::kind::RowKind;
 
 /// The place of the one cell that is a name; none where no cell is, or more than one.
 fn one_place(name: &[u8], names: &[&[u8]]) -> Option<usize>
-    ensures is { result ≡ one_place name.now (map (λ cell. cell.now) names.now) }
+    ensures is { result ≡ one_place name.now (texts names.now) }
     ensures within { IfSome result (λ place. place < length names.now) }
 {
     let mut found: Option<usize> = None;
@@ -26,7 +26,7 @@ fn one_place(name: &[u8], names: &[&[u8]]) -> Option<usize>
 /// The place of each column that a kind needs; none where a needed name stands not once.
 fn places<K: RowKind>(names: &[&[u8]]) -> Option<[u8; MOST_COLUMNS]>
     requires { length names.now ≤ 32 }
-    ensures { MatchOption result (are_named K.kind.needed (map (λ cell. cell.now) names.now) ≡ false) (λ p. (are_named K.kind.needed (map (λ cell. cell.now) names.now) ≡ true) × (take K.COLUMNS p ≡ places_of K.kind.needed (map (λ cell. cell.now) names.now))) }
+    ensures { PlacesIfNamed K.kind.needed (texts names.now) K.COLUMNS result }
 {
     let mut places = [0; MOST_COLUMNS];
     for column in 0..K::COLUMNS {
@@ -46,9 +46,11 @@ pub(crate) struct Columns {
 }
 
 impl Columns {
-    /// The columns that a line names; none where a needed one is absent or named twice, or where there are too many.
+    /// The columns that a line names;
+    /// none where a needed one is absent or named twice, or where there are too many.
     pub(crate) fn find<K: RowKind>(line: &[u8]) -> Option<Columns>
-        ensures { MatchOption result (are_columns K.kind.needed (cells line.now) ≡ false) (λ c. Finds K.kind.needed (cells line.now) (take K.COLUMNS c.places) c.width) }
+        ensures { MatchOption result (IsFalse (are_columns K.kind.needed (cells line.now)))
+            (λ c. HasColumns K.kind.needed (cells line.now) (take K.COLUMNS c.places) c.width) }
     {
         let mut room: [&[u8]; MOST_COLUMNS] = [&[]; MOST_COLUMNS];
         let names = split(line, &mut room)?;

@@ -1,7 +1,6 @@
 //! What is left of an input.
 ghost use Rattle.std.specs.Prelude.{◌≡◌, ◌<◌, ◌≤◌, ◌^◌, [], ◌∷◌, length, take, ◌==◌, ◌&&◌, MatchOption};
-ghost use Rattle.text.specs.Cells.{cells};
-ghost use Rattle.text.specs.Ends.{Ends};
+ghost use Rattle.text.specs.Ends.{EndsIfRoom};
 ghost use Rattle.text.specs.Lines.{lines, loose};
 ghost use Rattle.sheet.specs.Sheets.{Follows};
 
@@ -9,7 +8,8 @@ use std::marker::Model;
 use text::ends::cell_ends;
 use text::line::next_line;
 
-/// The part of an input that is still to be read, and the number of its first line, counted from 1 over the whole input.
+/// The part of an input that is still to be read, and the number of its first line,
+/// counted from 1 over the whole input.
 #[derive(Drop)]
 pub struct Input<'a> {
     ahead: &'a [u8],
@@ -19,11 +19,15 @@ pub struct Input<'a> {
 impl<'a> Model for Input<'a> {
     ghost use Rattle.std.specs.Prelude.{◌+◌, ◌≤◌, ◌^◌, length};
     ghost use Rattle.text.specs.Lines.{lines, loose};
-    ghost use Rattle.sheet.specs.Sheets.{Left};
+    ghost use Rattle.sheet.specs.Sheets.{Rest};
 
-    ghost Value = { Left };
+    ghost Value = { Rest };
 
-    ghost view = { λ i. record { lines = lines i.ahead.now; loose = loose i.ahead.now; line = i.first } };
+    ghost view = { λ i. record {
+      lines = lines i.ahead.now;
+      loose = loose i.ahead.now;
+      line = i.first;
+    } };
 
     ghost invariant = { λ i. i.first + length i.ahead.now ≤ 2 ^ 63 };
 }
@@ -71,10 +75,11 @@ impl<'a> Input<'a> {
         ))
     }
 
-    /// The ends of the cells of the first line, put into the room; none where there are more cells than room.
+    /// The ends of the cells of the first line, put into the room;
+    /// none where there are more cells than room.
     pub(crate) fn cell_ends<'r>(&self, line: &[u8], room: &'r mut [usize]) -> Option<&'r [usize]>
         requires { take 1 self.now.lines ≡ line.now ∷ [] }
-        ensures { MatchOption result (length room.old < length (cells line.now)) (λ r. Ends line.now r.now) }
+        ensures { EndsIfRoom line.now (length room.old) result }
     {
         cell_ends(self.ahead, line.len(), room)
     }

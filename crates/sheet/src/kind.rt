@@ -1,8 +1,8 @@
 //! A kind of row.
-ghost use Rattle.std.specs.Prelude.{◌≡◌, ◌<◌, ◌≤◌, ℕ, List, length, cond, true, Some, None};
-ghost use Rattle.std.specs.List.{list_all, slice_index_or};
+ghost use Rattle.std.specs.Prelude.{◌≡◌, ◌<◌, ◌≤◌, ℕ, List, length, true};
+ghost use Rattle.std.specs.List.{slice_index_or};
 ghost use Rattle.text.specs.Cells.{Cell};
-ghost use Rattle.sheet.specs.Kinds.{Kind, numbered};
+ghost use Rattle.sheet.specs.Kinds.{SheetKind, cell_at, fitting_row};
 
 use crate::cells::Cells;
 
@@ -23,21 +23,21 @@ pub trait RowKind {
     /// The names of those columns.
     const NAMES: &'static [&'static [u8]];
 
-    ghost kind: { Kind Self.Row };
+    ghost kind: { SheetKind Self.Row };
 
     /// The name of a column that it needs.
     fn name(column: usize) -> &'static [u8]
         requires { column < COLUMNS }
-        ensures { result.now ≡ numbered kind.needed column };
+        ensures { result.now ≡ cell_at kind.needed column };
 
     /// Whether the cell of a column that it needs fits.
     fn fits(column: usize, cells: &Cells<'_, '_>) -> bool
         requires { column < COLUMNS }
-        ensures { result ≡ slice_index_or (kind.fits (numbered cells.now)) column true };
+        ensures { result ≡ slice_index_or (kind.fits (cell_at cells.now)) column true };
 
     /// The row that the cells make, where each of them fits.
     fn read(cells: &Cells<'_, '_>) -> Option<Self::Row>
-        ensures { result ≡ cond (list_all (λ fits. fits) (kind.fits (numbered cells.now))) (Some (kind.row (numbered cells.now))) None };
+        ensures { result ≡ fitting_row kind (cell_at cells.now) };
 
     ghost marked: { MARK ≡ kind.mark };
 

@@ -1,5 +1,5 @@
 //! The laws of sheets: they are the contract of a function that does nothing else.
-ghost use Rattle.sheet.specs.Laws.{EachNameStands, ReadByName, OpenedHasNames, StaysNamed, AcceptedRows, LeftmostTold, LinesCounted, LinesTold, SameReadings};
+ghost use Rattle.sheet.specs.Laws.{EachNameStands, ReadByName, OpenedHasNames, StaysNamed, AcceptedRows, LeftmostReported, LinesCounted, LinesReported, SameReadings};
 
 use crate::kind::RowKind;
 
@@ -14,12 +14,13 @@ pub fn sheet_laws_stand<K: RowKind>()
     ensures stays_named { StaysNamed K.kind }
     // A row that is accepted has a cell for each column, and the needed ones fit and make it.
     ensures accepted_rows { AcceptedRows K.kind }
-    // Of the cells that do not fit, the leftmost is told.
-    ensures leftmost_told { LeftmostTold K.kind }
+    // Of the cells that do not fit, the leftmost is reported.
+    ensures leftmost_reported { LeftmostReported K.kind }
     // Each line that is read raises the number of the next by one.
     ensures lines_counted { LinesCounted K.kind }
     // A refusal tells a line that is left, or the one after the last where a line is missing.
-    ensures lines_told { LinesTold K.kind }
-    // Sheets with the same cells under the needed names are read alike, whatever their other columns and their order.
+    ensures lines_reported { LinesReported K.kind }
+    // Sheets with the same cells under the needed names are read alike,
+    // whatever their other columns and their order.
     ensures same_readings { SameReadings K.kind }
 {}

@@ -1,7 +1,7 @@
 //! A sheet's first line and its trailer.
 ghost use Rattle.std.specs.Prelude.{◌≡◌, ◌&&◌};
 ghost use Rattle.text.specs.Cells.{cells};
-ghost use Rattle.sheet.specs.Sheets.{is_top, is_trailer, counts};
+ghost use Rattle.sheet.specs.Sheets.{is_top, is_trailer, has_row_count};
 
 use text::cell::two_cells;
 use text::number::number;
@@ -25,7 +25,7 @@ pub(crate) fn is_trailer(line: &[u8]) -> bool
 
 /// Whether a line is a trailer that counts so many rows.
 pub(crate) fn counts(line: &[u8], rows: u64) -> bool
-    ensures { result ≡ (is_trailer line.now && counts rows (cells line.now)) }
+    ensures { result ≡ (is_trailer line.now && has_row_count rows (cells line.now)) }
 {
     match two_cells(line) {
         Some((first, count)) if first == b"END".as_slice() => number(count, rows, rows).is_some(),

@@ -3,7 +3,8 @@ ghost use Rattle.std.specs.Prelude.{◌≡◌};
 
 use quantities::refusal::Refusal;
 
-/// A refusal with the line that it is about, counted from 1 over the whole input, and the cell, counted from 1, or 0 where it is about no one cell.
+/// A refusal with the line that it is about, counted from 1 over the whole input,
+/// and the cell, counted from 1, or 0 where it is about no one cell.
 #[derive(Clone, Copy, PartialEq, Eq, Debug)]
 pub struct SheetRefusal {
     pub refusal: Refusal,

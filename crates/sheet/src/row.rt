@@ -1,6 +1,6 @@
 //! A row read from its line.
 ghost use Rattle.std.specs.Prelude.{◌≡◌, length};
-ghost use Rattle.sheet.specs.Kinds.{numbered};
+ghost use Rattle.sheet.specs.Kinds.{cell_at};
 ghost use Rattle.sheet.specs.Sheets.{leftmost, row_if};
 
 use crate::cells::Cells;
@@ -11,7 +11,7 @@ use quantities::refusal::Refusal;
 /// The leftmost place whose cell does not fit.
 fn leftmost_misfit<K: RowKind>(cells: &Cells<'_, '_>, places: &[u8]) -> Option<u8>
     requires { length places.now ≡ K.COLUMNS }
-    ensures { result ≡ leftmost (K.kind.fits (numbered cells.now)) places.now }
+    ensures { result ≡ leftmost (K.kind.fits (cell_at cells.now)) places.now }
 {
     let mut leftmost: Option<u8> = None;
     for (column, place) in places.iter().enumerate() {
@@ -31,7 +31,8 @@ pub(crate) fn made<K: RowKind>(
     line: usize,
 ) -> Result<K::Row, SheetRefusal>
     requires { length places.now ≡ K.COLUMNS }
-    ensures { result ≡ row_if (leftmost (K.kind.fits (numbered cells.now)) places.now) (K.kind.row (numbered cells.now)) line }
+    ensures { let cell = cell_at cells.now in
+        result ≡ row_if (leftmost (K.kind.fits cell) places.now) (K.kind.row cell) line }
 {
     if let Some(row) = K::read(cells) {
         return Ok(row);

@@ -6,7 +6,7 @@ use kinds::{Lot, Lots};
 use quantities::refusal::Refusal;
 
 /// The number of a refusal, its line and its cell.
-fn told(refusal: SheetRefusal) -> (u8, usize, usize) {
+fn numbers_of(refusal: SheetRefusal) -> (u8, usize, usize) {
     (refusal.refusal.number(), refusal.line, refusal.cell)
 }
 
@@ -19,7 +19,7 @@ fn opened(sheet: &[u8]) -> (u8, usize, usize) {
             lots.give_up();
             ACCEPTED
         }
-        Err(refusal) => told(refusal),
+        Err(refusal) => numbers_of(refusal),
     }
 }
 
@@ -31,10 +31,10 @@ fn first_row(sheet: &[u8]) -> (u8, usize, usize) {
             lots.give_up();
             match row {
                 Ok(_) => ACCEPTED,
-                Err(refusal) => told(refusal),
+                Err(refusal) => numbers_of(refusal),
             }
         }
-        Err(refusal) => told(refusal),
+        Err(refusal) => numbers_of(refusal),
     }
 }
 
@@ -46,12 +46,12 @@ fn closed(sheet: &[u8]) -> (u8, usize, usize) {
             let after = lots.close();
             match (row, after) {
                 (Ok(Some(_)), Ok(_)) => ACCEPTED,
-                (Ok(_), Err(refusal)) => told(refusal),
-                (Err(refusal), _) => told(refusal),
+                (Ok(_), Err(refusal)) => numbers_of(refusal),
+                (Err(refusal), _) => numbers_of(refusal),
                 (Ok(None), Ok(_)) => (99, 0, 0),
             }
         }
-        Err(refusal) => told(refusal),
+        Err(refusal) => numbers_of(refusal),
     }
 }
 
@@ -163,7 +163,8 @@ struct Numbers {
     rows: usize,
 }
 
-/// Reads a sheet of one row to its end, and asks for rows behind the last; none where that goes otherwise.
+/// Reads a sheet of one row to its end, and asks for rows behind the last;
+/// none where that goes otherwise.
 fn read_one<'a>(input: &Input<'a>) -> Option<(Numbers, Input<'a>)> {
     let mut lots = input.open::<Lots>().ok()?;
     let row_line = lots.line();

@@ -4,7 +4,7 @@ use Rattle.std.proofs.lemmas.Fmt.{decimal_by_steps}
 use Rattle.std.specs.Fmt.{decimal, signed_decimal}
 use Rattle.std.specs.Prelude.{codes, FitsSigned}
 use Rattle.std.specs.Int.{w64}
-use Rattle.statement.specs.Statements.{line}
+use Rattle.statement.specs.Statements.{line_text}
 use Rattle.statement.specs.Laws.{IsCell}
 
 -- a byte that ends a cell
@@ -25,25 +25,25 @@ cell_first (a ∷ c) (b ∷ bs) x y d e p q s t h =
     let k : c ≡ bs = r.0 in
     (cc, r.1)
 
--- what a list of cells has to be for its line to tell it
+-- each of a list is a cell
 abbrev pub EachCell : List (List ℕ) → Type 0
 EachCell [] = Unit {0}
 EachCell (c ∷ cs) = IsCell c × EachCell cs
 
 -- of texts that begin with a line, its cells and what follows
-pub line_first : (c d : List ℕ) (cs ds : List (List ℕ)) (x y : List ℕ) → EachCell (c ∷ cs) → EachCell (d ∷ ds) → line (c ∷ cs) ++ x ≡ line (d ∷ ds) ++ y → ((c ∷ cs) ≡ (d ∷ ds)) × (x ≡ y)
+pub line_first : (c d : List ℕ) (cs ds : List (List ℕ)) (x y : List ℕ) → EachCell (c ∷ cs) → EachCell (d ∷ ds) → line_text (c ∷ cs) ++ x ≡ line_text (d ∷ ds) ++ y → ((c ∷ cs) ≡ (d ∷ ds)) × (x ≡ y)
 line_first c d [] [] x y p q h =
     let r = cell_first c d x y 10 10 p.0 q.0 (inr refl) (inr refl) (sym (append_assoc c (codes "\n") x) ∙ (h ∙ append_assoc d (codes "\n") y)) in
     let k : c ≡ d = r.0 in
     (cc, r.1.1)
 line_first c d [] (e ∷ es) x y p q h =
-    let r = cell_first c d x (line (e ∷ es) ++ y) 10 59 p.0 q.0 (inr refl) (inl refl) (sym (append_assoc c (codes "\n") x) ∙ (h ∙ append_assoc d (59 ∷ line (e ∷ es)) y)) in
+    let r = cell_first c d x (line_text (e ∷ es) ++ y) 10 59 p.0 q.0 (inr refl) (inl refl) (sym (append_assoc c (codes "\n") x) ∙ (h ∙ append_assoc d (59 ∷ line_text (e ∷ es)) y)) in
     absurd (omega (arith, r.1.0))
 line_first c d (b ∷ bs) [] x y p q h =
-    let r = cell_first c d (line (b ∷ bs) ++ x) y 59 10 p.0 q.0 (inl refl) (inr refl) (sym (append_assoc c (59 ∷ line (b ∷ bs)) x) ∙ (h ∙ append_assoc d (codes "\n") y)) in
+    let r = cell_first c d (line_text (b ∷ bs) ++ x) y 59 10 p.0 q.0 (inl refl) (inr refl) (sym (append_assoc c (59 ∷ line_text (b ∷ bs)) x) ∙ (h ∙ append_assoc d (codes "\n") y)) in
     absurd (omega (arith, r.1.0))
 line_first c d (b ∷ bs) (e ∷ es) x y p q h =
-    let r = cell_first c d (line (b ∷ bs) ++ x) (line (e ∷ es) ++ y) 59 59 p.0 q.0 (inl refl) (inl refl) (sym (append_assoc c (59 ∷ line (b ∷ bs)) x) ∙ (h ∙ append_assoc d (59 ∷ line (e ∷ es)) y)) in
+    let r = cell_first c d (line_text (b ∷ bs) ++ x) (line_text (e ∷ es) ++ y) 59 59 p.0 q.0 (inl refl) (inl refl) (sym (append_assoc c (59 ∷ line_text (b ∷ bs)) x) ∙ (h ∙ append_assoc d (59 ∷ line_text (e ∷ es)) y)) in
     let rest = line_first b e bs es x y p.1 q.1 r.1.1 in
     let k : c ≡ d = r.0 in
     let l : (b ∷ bs) ≡ (e ∷ es) = rest.0 in

@@ -21,8 +21,8 @@ reached (suc k) n from small =
     omega (arith, long, reached k (n / 10) (omega arith) (omega arith))
 
 -- of two neighbouring counts, the power of ten between them tells which one it is
-told : (k n : ℕ) → n < 2 ^ 64 → 10 ^ k ≤ n → n < 10 ^ (suc k + 1) → suc k + bool_byte (leb (10 ^ suc k) n) ≡ length (decimal n)
-told k n small from below =
+count_between : (k n : ℕ) → n < 2 ^ 64 → 10 ^ k ≤ n → n < 10 ^ (suc k + 1) → suc k + bool_byte (leb (10 ^ suc k) n) ≡ length (decimal n)
+count_between k n small from below =
     elim (leb_tells (10 ^ suc k) n) [
       | inl t ↦ rw t.0 (omega (arith, reached (suc k) n t.1 small, length-decimal-le (suc k + 1) n (omega arith) below small))
       | inr t ↦ rw t.0 (omega (arith, reached k n from small, length-decimal-le (suc k) n (omega arith) t.1 small))
@@ -55,7 +55,7 @@ yes bits = true
 
 from_least : (g bits n : ℕ) → n < 2 ^ 64 → 2 ^ bits ≤ 2 * n + 1 → reaches g bits ≡ true → n < 10 ^ (g + 1) → g + bool_byte (leb (power g) n) ≡ length (decimal n)
 from_least zero bits n small long r below = rw leb-zero (sym (ap length (decimal_digit n (omega arith))))
-from_least (suc k) bits n small long r below = told k n small (omega (arith, leb-true _ _ r)) below
+from_least (suc k) bits n small long r below = count_between k n small (omega (arith, leb-true _ _ r)) below
 
 pub digits_counted : (n : ℕ) → n < 2 ^ 64 → least (64 - count_leading_zeros 64 n) + bool_byte (leb (get_or POWERS (least (64 - count_leading_zeros 64 n)) 0) n) ≡ length (decimal n)
 digits_counted n small =

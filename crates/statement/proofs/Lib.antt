@@ -1,4 +1,4 @@
 pub mod Placed
 pub mod Cells
 pub mod Digits
-pub mod Told
+pub mod SameText

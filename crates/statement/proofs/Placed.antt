@@ -4,7 +4,7 @@ use Rattle.std.proofs.lemmas.List.{drop-drop, take_at, drop_at, length-take-le, 
 use Rattle.account.specs.declared.row.Row.{Row}
 use Rattle.account.specs.declared.row.Scope.TheVariants.{Trades}
 use Rattle.account.specs.declared.row.Scenario.TheVariants.{AllTrades}
-use Rattle.statement.specs.Statements.{row_text, rows_text, put_at, Puts}
+use Rattle.statement.specs.Statements.{row_text, rows_text, memory_with_bytes, Puts}
 
 -- a row of a list; past its end, one that is never asked for
 abbrev pub row_at : List Row → ℕ → Row
@@ -12,11 +12,11 @@ row_at rows i =
     get_or rows i (record { isin = record { bytes = [] }; scope = Trades AllTrades; initial_margin = 0; variation_margin = pos 0 })
 
 -- bytes of two parts are put by one after the other
-pub put_both : (at : ℕ) (a b memory : List ℕ) → at ≤ length memory → put_at (at + length a) b (put_at at a memory) ≡ put_at at (a ++ b) memory
+pub put_both : (at : ℕ) (a b memory : List ℕ) → at ≤ length memory → memory_with_bytes (at + length a) b (memory_with_bytes at a memory) ≡ memory_with_bytes at (a ++ b) memory
 put_both at a b memory within =
     let front : List ℕ = take at memory ++ a in
     let back : List ℕ = drop (length a) (drop at memory) in
-    let so_far : put_at at a memory ≡ front ++ back = sym (append_assoc (take at memory) a back) in
+    let so_far : memory_with_bytes at a memory ≡ front ++ back = sym (append_assoc (take at memory) a back) in
     let long : length front ≡ at + length a = omega (arith, length-append (take at memory) a, length-take-le at memory within) in
     rw (so_far, take_at front back (at + length a) long, drop_at front back (at + length a) long, length-append a b, drop-drop (length b) (length a) (drop at memory))
     (simp append_assoc)
@@ -29,7 +29,7 @@ then_puts at mid end a b m n o within p q = record {
 }
 
 -- once a part is put, the rest puts what both put
-pub rest_puts : (at mid : ℕ) (a b m n whole : List ℕ) → at ≤ length m → Puts at a m n mid → put_at at (a ++ b) m ≡ whole → put_at mid b n ≡ whole
+pub rest_puts : (at mid : ℕ) (a b m n whole : List ℕ) → at ≤ length m → Puts at a m n mid → memory_with_bytes at (a ++ b) m ≡ whole → memory_with_bytes mid b n ≡ whole
 rest_puts at mid a b m n whole within p w = rw (p.ends, p.placed) (put_both at a b m within ∙ w)
 
 -- the text of the rows from one on is that row's line, and then the text of those after it

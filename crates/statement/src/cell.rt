@@ -31,8 +31,8 @@ const POWERS: [u64; 20] = [
 
 /// How many digits a number has.
 pub(crate) fn digits(number: u64) -> usize
-    ensures is { result ≡ length (decimal number) }
-    ensures few { result ≤ 20 }
+    ensures size { result ≡ length (decimal number) }
+    ensures bound { result ≤ 20 }
 {
     // a bit is 1,233/4,096 of a digit, so this is the count or one too few
     let bits = 64 - number.leading_zeros() as usize;
@@ -42,8 +42,8 @@ pub(crate) fn digits(number: u64) -> usize
 
 /// How many bytes a signed number has.
 pub(crate) fn signed_len(number: i64) -> usize
-    ensures is { result ≡ length (signed_decimal number) }
-    ensures few { result ≤ 21 }
+    ensures size { result ≡ length (signed_decimal number) }
+    ensures bound { result ≤ 21 }
 {
     digits(number.unsigned_abs()) + usize::from(number < 0)
 }

@@ -3,6 +3,6 @@ ghost use Rattle.statement.specs.Laws.{StatementLaw};
 
 /// The law is proved of the definitions.
 pub fn statement_laws_stand()
-    // A statement tells its rows and its margin: no others have the same text.
+    // A statement's text is of one list of rows and of one margin: no others have the same text.
     ensures { StatementLaw }
 {}

@@ -2,7 +2,7 @@
 ghost use Rattle.std.specs.Prelude.{◌≡◌, ◌+◌, ◌≤◌, ◌++◌, length, codes};
 ghost use Rattle.std.specs.Fmt.{decimal};
 ghost use Rattle.account.specs.Rows.{block_of, scenario_of};
-ghost use Rattle.statement.specs.Statements.{letter, row_text, total_text, end_text, Puts};
+ghost use Rattle.statement.specs.Statements.{block_letter, row_text, total_text, end_text, Puts};
 
 use crate::cell::{digits, put, put_number, put_signed, signed_len};
 use account::call::Margin;
@@ -31,8 +31,8 @@ pub(crate) fn put_row(memory: &mut [u8], at: usize, row: &Row) -> usize
 
 /// How long the line of a margin is.
 pub(crate) fn total_len(margin: Margin) -> usize
-    ensures is { result ≡ length (total_text margin.cents margin.rounded_amounts) }
-    ensures few { result ≤ 48 }
+    ensures size { result ≡ length (total_text margin.cents margin.rounded_amounts) }
+    ensures bound { result ≤ 48 }
 {
     8 + digits(margin.cents) + digits(margin.rounded_amounts.into())
 }
@@ -40,7 +40,8 @@ pub(crate) fn total_len(margin: Margin) -> usize
 /// Puts the line of a margin at a place.
 pub(crate) fn put_total(memory: &mut [u8], at: usize, margin: Margin) -> usize
     requires { at + length (total_text margin.cents margin.rounded_amounts) ≤ length memory.old }
-    ensures { Puts at (total_text margin.cents margin.rounded_amounts) memory.old memory.new result }
+    ensures { let text = total_text margin.cents margin.rounded_amounts in
+        Puts at text memory.old memory.new result }
 {
     let at = put(memory, at, b"TOTAL;");
     let at = put_number(memory, at, margin.cents);
@@ -51,8 +52,8 @@ pub(crate) fn put_total(memory: &mut [u8], at: usize, margin: Margin) -> usize
 
 /// How long the last line is.
 pub(crate) fn end_len(rows: usize) -> usize
-    ensures is { result ≡ length (end_text rows) }
-    ensures few { result ≤ 25 }
+    ensures size { result ≡ length (end_text rows) }
+    ensures bound { result ≤ 25 }
 {
     5 + digits(rows as u64)
 }
@@ -70,13 +71,14 @@ pub(crate) fn put_end(memory: &mut [u8], at: usize, rows: usize) -> usize
 // The cells of a row's block and scenario, with the ends of the cells around them.
 #[tactic(auto, using(std::proofs::lemmas::Fmt::decimal_digit))]
 fn scope_cells(scope: Scope) -> &'static [u8; 5]
-    ensures are { result.now ≡ codes ";" ++ letter (block_of scope) ++ codes ";" ++ decimal (scenario_of scope) ++ codes ";" }
-    ensures long { length result.now ≡ 5 }
+    ensures cells { let block = codes ";" ++ block_letter (block_of scope) ++ codes ";" in
+        result.now ≡ block ++ decimal (scenario_of scope) ++ codes ";" }
+    ensures size { length result.now ≡ 5 }
 {
     match scope {
         Scope::Trades(Scenario::AllTrades) => b";T;1;",
         Scope::Trades(Scenario::WithoutToday) => b";T;2;",
-        Scope::Trades(Scenario::WithoutNext) => b";T;3;",
+        Scope::Trades(Scenario::AfterNext) => b";T;3;",
         Scope::FailedLines => b";F;0;",
         Scope::HeldLines => b";H;0;",
         Scope::CashOnlyLines => b";C;0;",

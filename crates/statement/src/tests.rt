@@ -16,7 +16,7 @@ const SHORT_BOND: Isin = Isin {
 const ROWS: [Row; 3] = [
     Row {
         isin: LONG_BOND,
-        scope: Scope::Trades(Scenario::WithoutNext),
+        scope: Scope::Trades(Scenario::AfterNext),
         initial_margin: 2_020_000,
         variation_margin: 1_000_000,
     },

@@ -1,7 +1,7 @@
 //! The text of a statement.
 ghost use Rattle.std.specs.Prelude.{◌≡◌, ◌^◌, ◌<◌, ◌≤◌, length, SomeIff};
-ghost use Rattle.quantities.specs.Checked.{told};
-ghost use Rattle.statement.specs.Statements.{statement_text, put_at, length_written, with_text};
+ghost use Rattle.quantities.specs.RangeChecks.{numbers_of};
+ghost use Rattle.statement.specs.Statements.{statement_text, memory_with_bytes, length_answer, memory_with_text};
 
 use crate::cell::put;
 use crate::line::{end_len, put_end, put_row, put_total, row_len, total_len};
@@ -43,7 +43,7 @@ impl<'a> Statement<'a> {
     // Puts the text at the front of the memory.
     fn write(&self, memory: &mut [u8])
         requires { length self.now ≤ length memory.old }
-        ensures { memory.new ≡ put_at 0 self.now memory.old }
+        ensures { memory.new ≡ memory_with_bytes 0 self.now memory.old }
     {
         let Statement { rows, margin } = self;
         let mut at = put(memory, 0, HEAD);
@@ -55,10 +55,13 @@ impl<'a> Statement<'a> {
     }
 }
 
-/// Writes the statement of a margin at the front of a buffer, and answers its length; refuses a text that is longer than the buffer, which then keeps all that it held.
+/// Writes the statement of a margin at the front of a buffer, and answers its length; refuses a
+/// text that is longer than the buffer, which then keeps all that it held.
 pub fn write_statement(rows: &[Row], margin: Margin, buffer: &mut [u8]) -> Result<usize, Refusal>
-    ensures answer { told (λ len. len) result ≡ length_written (statement_text rows.now margin.cents margin.rounded_amounts) buffer.old }
-    ensures buffer { buffer.new ≡ with_text (statement_text rows.now margin.cents margin.rounded_amounts) buffer.old }
+    ensures answer { let text = statement_text rows.now margin.cents margin.rounded_amounts in
+        numbers_of (λ len. len) result ≡ length_answer text buffer.old }
+    ensures buffer { let text = statement_text rows.now margin.cents margin.rounded_amounts in
+        buffer.new ≡ memory_with_text text buffer.old }
 {
     let statement = Statement { rows, margin };
     // the length is known before the first byte is written

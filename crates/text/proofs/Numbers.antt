@@ -5,24 +5,24 @@ use Rattle.std.proofs.Math.Nat.{pow-succ', pow-le-pow_right}
 use Rattle.std.proofs.lemmas.Bool.Decides.{nat_tests}
 use Rattle.std.proofs.lemmas.List.{at_drop_more, at_drop_all}
 use Rattle.std.proofs.lemmas.Option.{cond_some}
-use Rattle.text.specs.Numbers.{digit, written, within, signed_number, within_signed, signed_number_in}
+use Rattle.text.specs.Numbers.{digit, digits_number, within, signed_number, within_signed, signed_number_in}
 
 -- digits are read up to i, and write n
 abbrev pub Read : List ℕ → ℕ → ℕ → Type 0
-Read digits i n = written n (drop i digits) ≡ written 0 digits
+Read digits i n = digits_number n (drop i digits) ≡ digits_number 0 digits
 
 module _ (digits : List ℕ) (i n : ℕ) (read : Read digits i n) where
-  next : i < length digits → written n (drop i digits) ≡ option_and_then (λ d. written (n * 10 + d) (drop (i + 1) digits)) (digit (get_or digits i 0))
-  next l = at_drop_more (written n) digits i 0 l
+  next : i < length digits → digits_number n (drop i digits) ≡ option_and_then (λ d. digits_number (n * 10 + d) (drop (i + 1) digits)) (digit (get_or digits i 0))
+  next l = at_drop_more (digits_number n) digits i 0 l
 
   pub more : (d : ℕ) → i < length digits → Some d ≡ digit (get_or digits i 0) → Read digits (i + 1) (n * 10 + d)
-  more d l e = ap (option_and_then (λ d. written (n * 10 + d) (drop (i + 1) digits))) e ∙ (sym (next l) ∙ read)
+  more d l e = ap (option_and_then (λ d. digits_number (n * 10 + d) (drop (i + 1) digits))) e ∙ (sym (next l) ∙ read)
 
-  pub none : i < length digits → None ≡ digit (get_or digits i 0) → written 0 digits ≡ None
-  none l e = sym read ∙ (next l ∙ ap (option_and_then (λ d. written (n * 10 + d) (drop (i + 1) digits))) (sym e))
+  pub none : i < length digits → None ≡ digit (get_or digits i 0) → digits_number 0 digits ≡ None
+  none l e = sym read ∙ (next l ∙ ap (option_and_then (λ d. digits_number (n * 10 + d) (drop (i + 1) digits))) (sym e))
 
-  pub whole : length digits ≤ i → written 0 digits ≡ Some n
-  whole l = sym read ∙ at_drop_all (written n) digits i l
+  pub whole : length digits ≤ i → digits_number 0 digits ≡ Some n
+  whole l = sym read ∙ at_drop_all (digits_number n) digits i l
 
 -- one digit more
 pub grows : (n d i : ℕ) → n < 10 ^ i → d < 10 → n * 10 + d < 10 ^ (i + 1)
@@ -34,14 +34,14 @@ grows n d i l m =
 pub fits : (n d i : ℕ) → n < 10 ^ i → d < 10 → i < 19 → n * 10 + d < 2 ^ 64
 fits n d i l m s = omega (arith, grows n d i l m, pow-le-pow_right {n = 10} (omega arith) {i = i + 1} {j = 19} (omega arith))
 
-written_past : (low high n : ℕ) (bs : List ℕ) → high < n → option_and_then (within low high) (written n bs) ≡ None
-written_past low high n [] h = grind (arith, nat_tests)
-written_past low high n (b ∷ bs) h =
-    elim (digit b) as (λ o. option_and_then (within low high) (option_and_then (λ d. written (n * 10 + d) bs) o) ≡ None)
-    [ None ↦ refl | Some d ↦ written_past low high (n * 10 + d) bs (omega arith) ]
+digits_number_past : (low high n : ℕ) (bs : List ℕ) → high < n → option_and_then (within low high) (digits_number n bs) ≡ None
+digits_number_past low high n [] h = grind (arith, nat_tests)
+digits_number_past low high n (b ∷ bs) h =
+    elim (digit b) as (λ o. option_and_then (within low high) (option_and_then (λ d. digits_number (n * 10 + d) bs) o) ≡ None)
+    [ None ↦ refl | Some d ↦ digits_number_past low high (n * 10 + d) bs (omega arith) ]
 
-pub past : (high : ℕ) (digits : List ℕ) (i n : ℕ) → Read digits i n → high < n → option_and_then (within 0 high) (written 0 digits) ≡ None
-past high digits i n read h = ap (option_and_then (within 0 high)) (sym read) ∙ written_past 0 high n (drop i digits) h
+pub past : (high : ℕ) (digits : List ℕ) (i n : ℕ) → Read digits i n → high < n → option_and_then (within 0 high) (digits_number 0 digits) ≡ None
+past high digits i n read h = ap (option_and_then (within 0 high)) (sym read) ∙ digits_number_past 0 high n (drop i digits) h
 
 -- what is at most the higher of two bounds is judged by the lower alone
 pub judged_once : (low high most : ℕ) (o : Option ℕ) → high ≤ most → option_and_then (within low high) (option_and_then (within 0 most) o) ≡ option_and_then (within low high) o

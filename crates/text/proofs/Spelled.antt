@@ -8,7 +8,7 @@ use Rattle.std.proofs.lemmas.Bool.{cond-true, cond-false, ne_eqb, eqb-true, eqb-
 use Rattle.std.proofs.lemmas.Fmt.{decimal_nonempty, first_decimal, decimal_digit, digits_decimal, digits_value-decimal, decimal-digits_value}
 use Rattle.std.proofs.lemmas.Option.{cond_some}
 use Rattle.std.proofs.lemmas.Str.Parse.{IsNumeralModel, numerals_by_fold, tells_all_ascii_digits}
-use Rattle.text.specs.Numbers.{written, number, minus, signed_number}
+use Rattle.text.specs.Numbers.{digits_number, number, negative_of, signed_number}
 use Rattle.text.specs.Laws.{PrintedLaw, SpellingLaw, SignedPrintedLaw, SignedSpellingLaw}
 
 value : ℕ → List ℕ → ℕ
@@ -19,18 +19,18 @@ own : IsNumeralModel (λ ds. all_ascii_digits ds ≡ true) (value 0)
 unfolding value
 own = numerals_by_fold _ tells_all_ascii_digits value (search rules)
 
-written_is : (n : ℕ) (bs : List ℕ) → written n bs ≡ cond (all_ascii_digits bs) (Some (value n bs)) None
+digits_number_is : (n : ℕ) (bs : List ℕ) → digits_number n bs ≡ cond (all_ascii_digits bs) (Some (value n bs)) None
 unfolding value
-written_is n [] = refl
-written_is n (b ∷ bs) =
-    elim (is_ascii_digit b) as (λ t. option_and_then (λ d. written (n * 10 + d) bs) (cond t (Some (b - 48)) None) ≡ cond (t && all_ascii_digits bs) (Some (value (n * 10 + (b - 48)) bs)) None)
-    [ true ↦ written_is (n * 10 + (b - 48)) bs | false ↦ refl ]
+digits_number_is n [] = refl
+digits_number_is n (b ∷ bs) =
+    elim (is_ascii_digit b) as (λ t. option_and_then (λ d. digits_number (n * 10 + d) bs) (cond t (Some (b - 48)) None) ≡ cond (t && all_ascii_digits bs) (Some (value (n * 10 + (b - 48)) bs)) None)
+    [ true ↦ digits_number_is (n * 10 + (b - 48)) bs | false ↦ refl ]
 
 -- a cell whose digits write n, with no zero in front of others
 record Plain (cell : List ℕ) (n : ℕ) : Type 0 where
   some : 0 < length cell
   front : get_or cell 0 0 ≡ 48 → length cell ≡ 1
-  whole : written 0 cell ≡ Some n
+  whole : digits_number 0 cell ≡ Some n
 
 plain_number : (cell : List ℕ) (n : ℕ) → Plain cell n → number cell ≡ Some n
 plain_number [] n h = absurd (omega (arith, h.some))
@@ -57,13 +57,13 @@ printed_law n l =
     plain_number (decimal n) n (record {
       some = decimal_nonempty n l;
       front = front_printed n l;
-      whole = written_is 0 (decimal n) ∙ (cond-true (all_ascii_digits (decimal n)) _ _ (digits_decimal own n l) ∙ ap Some (digits_value-decimal own n l));
+      whole = digits_number_is 0 (decimal n) ∙ (cond-true (all_ascii_digits (decimal n)) _ _ (digits_decimal own n l) ∙ ap Some (digits_value-decimal own n l));
     })
 
 pub spelling_law : SpellingLaw
 spelling_law cell n l e =
     let p = number_plain cell n e in
-    let w = cond_some (all_ascii_digits cell) (value 0 cell) n (sym (written_is 0 cell) ∙ p.whole) in
+    let w = cond_some (all_ascii_digits cell) (value 0 cell) n (sym (digits_number_is 0 cell) ∙ p.whole) in
     sym (decimal-digits_value own cell w.0 p.some p.front (omega (arith, w.1))) ∙ ap decimal w.1
 
 front_high : (n : ℕ) → n < 2 ^ 64 → 48 ≤ get_or (decimal n) 0 0
@@ -74,16 +74,16 @@ no_minus : (cell : List ℕ) → get_or cell 0 0 ≢ 45 → signed_number cell �
 no_minus [] h = refl
 no_minus (b ∷ bs) h = cond-false (eqb b 45) _ _ (ne_eqb b 45 h)
 
-minus_more : (n : ℕ) → minus (suc n) ≡ Some (negsuc n)
+minus_more : (n : ℕ) → negative_of (suc n) ≡ Some (negsuc n)
 minus_more n = cond-false (eqb (suc n) 0) _ _ (ne_eqb (suc n) 0 (λ e. absurd (omega arith)))
 
 pub signed_printed_law : SignedPrintedLaw
 signed_printed_law (pos n) l =
     let h = front_high n (omega arith) in
     no_minus (decimal n) (λ e. absurd (omega arith)) ∙ ap (option_map pos) (printed_law n (omega arith))
-signed_printed_law (negsuc n) l = ap (option_and_then minus) (printed_law (suc n) (omega arith)) ∙ minus_more n
+signed_printed_law (negsuc n) l = ap (option_and_then negative_of) (printed_law (suc n) (omega arith)) ∙ minus_more n
 
-minus_read : (o : Option ℕ) (z : ℤ) → option_and_then minus o ≡ Some z → (n : ℕ) × (o ≡ Some (suc n)) × (z ≡ negsuc n)
+minus_read : (o : Option ℕ) (z : ℤ) → option_and_then negative_of o ≡ Some z → (n : ℕ) × (o ≡ Some (suc n)) × (z ≡ negsuc n)
 minus_read None z e = cc
 minus_read (Some zero) z e = cc
 minus_read (Some (suc n)) z e = (n, refl, cc (minus_more n))
@@ -92,7 +92,7 @@ plus_read : (o : Option ℕ) (z : ℤ) → option_map pos o ≡ Some z → (n : 
 plus_read None z e = cc
 plus_read (Some n) z e = (n, refl, cc)
 
-by_sign : (b : ℕ) (bs : List ℕ) (z : ℤ) (t : Bool) → unsigned_abs z < 2 ^ 63 → eqb b 45 ≡ t → cond t (option_and_then minus (number bs)) (option_map pos (number (b ∷ bs))) ≡ Some z → b ∷ bs ≡ signed_decimal z
+by_sign : (b : ℕ) (bs : List ℕ) (z : ℤ) (t : Bool) → unsigned_abs z < 2 ^ 63 → eqb b 45 ≡ t → cond t (option_and_then negative_of (number bs)) (option_map pos (number (b ∷ bs))) ≡ Some z → b ∷ bs ≡ signed_decimal z
 by_sign b bs z true l s e =
     let m = minus_read (number bs) z e in
     ap (λ x. x ∷ bs) (eqb-true b 45 s) ∙ (ap (λ x. 45 ∷ x) (spelling_law bs (suc m.0) (omega (arith, ap unsigned_abs m.2)) m.1) ∙ ap signed_decimal (sym m.2))

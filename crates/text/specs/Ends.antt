@@ -1,5 +1,6 @@
 -- Where the cells of a line end.
-use Rattle.std.specs.Prelude.{◌≡◌, ℕ, zero, suc, ◌+◌, ◌-◌, ◌<◌, ◌≤◌, List, [], length, take, drop, slice_index}
+use Rattle.std.specs.Prelude.{◌≡◌, ℕ, zero, suc, ◌+◌, ◌-◌, ◌<◌, ◌≤◌, List, [], length, take, drop, Option, slice_index, MatchOption}
+use Rattle.std.specs.Borrow.{Bor}
 use Rattle.std.specs.List.{slice_index_or}
 use Rattle.text.specs.Cells.{cells}
 
@@ -18,3 +19,8 @@ pub record StandsAt (line : List ℕ) (i start end : ℕ) : Type 0 where
 pub record Ends (line ends : List ℕ) : Type 0 where
   pub count : length ends ≡ length (cells line)
   pub each : (i : ℕ) → i < length ends → StandsAt line i (start_of ends i) (slice_index ends i)
+
+-- the ends of the cells of a line, or none where it has more cells than there is room for
+abbrev pub EndsIfRoom : List ℕ → ℕ → Option (Bor (List ℕ)) → Type 0
+EndsIfRoom line room answer =
+    MatchOption answer (room < length (cells line)) (λ ends. Ends line ends.now)

@@ -8,15 +8,15 @@ abbrev pub digit : ℕ → Option ℕ
 digit b = if is_ascii_digit b then Some (b - 48) else None
 
 -- the number that digits write behind others that write n; a byte that is no digit writes none
-abbrev pub written : ℕ → Cell → Option ℕ
-written n [] = Some n
-written n (b ∷ bs) = option_and_then (λ d. written (n * 10 + d) bs) (digit b)
+abbrev pub digits_number : ℕ → Cell → Option ℕ
+digits_number n [] = Some n
+digits_number n (b ∷ bs) = option_and_then (λ d. digits_number (n * 10 + d) bs) (digit b)
 
 -- the whole number that a cell spells: no zero stands in front of other digits
 abbrev pub number : Cell → Option ℕ
 number [] = None
-number (b ∷ []) = written 0 (b ∷ [])
-number (b ∷ (c ∷ cs)) = if b == 48 then None else written 0 (b ∷ (c ∷ cs))
+number (b ∷ []) = digits_number 0 (b ∷ [])
+number (b ∷ (c ∷ cs)) = if b == 48 then None else digits_number 0 (b ∷ (c ∷ cs))
 
 -- a number from low to high
 abbrev pub within : ℕ → ℕ → ℕ → Option ℕ
@@ -27,13 +27,15 @@ abbrev pub number_in : ℕ → ℕ → Cell → Option ℕ
 number_in low high cell = option_and_then (within low high) (number cell)
 
 -- minus a number that is not 0
-abbrev pub minus : ℕ → Option ℤ
-minus n = if n == 0 then None else Some (neg_ℤ (pos n))
+abbrev pub negative_of : ℕ → Option ℤ
+negative_of n = if n == 0 then None else Some (neg_ℤ (pos n))
 
 -- the number that a cell spells, with a minus before a negative one
 abbrev pub signed_number : Cell → Option ℤ
 signed_number [] = None
-signed_number (b ∷ bs) = if b == 45 then option_and_then minus (number bs) else option_map pos (number (b ∷ bs))
+signed_number (b ∷ bs) =
+    if b == 45 then option_and_then negative_of (number bs)
+    else option_map pos (number (b ∷ bs))
 
 abbrev pub within_signed : ℤ → ℤ → ℤ → Option ℤ
 within_signed low high n = if int_le low n && int_le n high then Some n else None

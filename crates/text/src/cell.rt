@@ -17,7 +17,8 @@ pub fn next_cell(line: &[u8]) -> (&[u8], Option<&[u8]>)
 /// The cells of a line that has just two.
 #[tactic(auto, using(crate::proofs::Parts::some_part))]
 pub fn two_cells(line: &[u8]) -> Option<(&[u8], &[u8])>
-    ensures { MatchOption result (length (cells line.now) ≢ 2) (λ r. cells line.now ≡ r.0.now ∷ (r.1.now ∷ [])) }
+    ensures { MatchOption result (length (cells line.now) ≢ 2)
+        (λ r. cells line.now ≡ r.0.now ∷ (r.1.now ∷ [])) }
 {
     let (first, after) = next_cell(line);
     match next_cell(after?) {

@@ -1,7 +1,6 @@
 //! Where the cells of a line end.
-ghost use Rattle.std.specs.Prelude.{◌<◌, ◌≤◌, length, take, MatchOption};
-ghost use Rattle.text.specs.Cells.{cells};
-ghost use Rattle.text.specs.Ends.{Ends};
+ghost use Rattle.std.specs.Prelude.{◌<◌, ◌≤◌, length, take};
+ghost use Rattle.text.specs.Ends.{EndsIfRoom};
 
 use crate::cell::SEMICOLON;
 use crate::part::position;
@@ -11,7 +10,7 @@ use crate::window::{WINDOW, lowest, marks, with, without};
 fn near_ends<'r>(text: &[u8], end: usize, room: &'r mut [usize]) -> Option<&'r [usize]>
     requires near { end < 64 }
     requires seen { 64 ≤ length text.now }
-    ensures { MatchOption result (length room.old < length (cells (take end text.now))) (λ r. Ends (take end text.now) r.now) }
+    ensures { EndsIfRoom (take end text.now) (length room.old) result }
 {
     let mut marks = with(marks(text, SEMICOLON), end);
     for place in 0..room.len() {
@@ -27,7 +26,7 @@ fn near_ends<'r>(text: &[u8], end: usize, room: &'r mut [usize]) -> Option<&'r [
 
 // The ends of the cells of a line of any length, found one by one.
 fn far_ends<'r>(line: &[u8], room: &'r mut [usize]) -> Option<&'r [usize]>
-    ensures { MatchOption result (length room.old < length (cells line.now)) (λ r. Ends line.now r.now) }
+    ensures { EndsIfRoom line.now (length room.old) result }
 {
     let mut start = 0;
     for place in 0..room.len() {
@@ -45,9 +44,10 @@ fn far_ends<'r>(line: &[u8], room: &'r mut [usize]) -> Option<&'r [usize]>
     None
 }
 
-/// The ends of the cells of the line that stands in front of a text up to `end`, put into the room; none where it has more cells than there is room for.
+/// The ends of the cells of the line that stands in front of a text up to `end`, put into the room;
+/// none where it has more cells than there is room for.
 pub fn cell_ends<'r>(text: &[u8], end: usize, room: &'r mut [usize]) -> Option<&'r [usize]>
-    ensures { MatchOption result (length room.old < length (cells (take end text.now))) (λ r. Ends (take end text.now) r.now) }
+    ensures { EndsIfRoom (take end text.now) (length room.old) result }
 {
     if end < WINDOW && text.len() >= WINDOW {
         near_ends(text, end, room)

@@ -1,6 +1,6 @@
 //! The numbers that cells spell; each has one spelling.
 ghost use Rattle.std.specs.Prelude.{◌≡◌, ◌<◌, ◌≤◌, ◌≤ℤ◌, ◌-◌, ◌^◌, length, pos, neg_ℤ, IfSome, option_map, option_and_then};
-ghost use Rattle.text.specs.Numbers.{digit, written, within, number_in, signed_number_in};
+ghost use Rattle.text.specs.Numbers.{digit, digits_number, within, number_in, signed_number_in};
 
 // The digit that a byte writes.
 fn digit(byte: u8) -> Option<u64>
@@ -20,7 +20,7 @@ const SURE_DIGITS: usize = 19;
 #[tactic(auto, using(crate::proofs::Numbers::more, crate::proofs::Numbers::none, crate::proofs::Numbers::whole))]
 fn few_digits(digits: &[u8]) -> Option<u64>
     requires { length digits.now ≤ 19 }
-    ensures { result ≡ written 0 digits.now }
+    ensures { result ≡ digits_number 0 digits.now }
 {
     let mut number: u64 = 0;
     for byte in digits {
@@ -32,7 +32,7 @@ fn few_digits(digits: &[u8]) -> Option<u64>
 // The number that digits write, if it is below 2^64.
 #[tactic(auto, using(crate::proofs::Numbers::more, crate::proofs::Numbers::none, crate::proofs::Numbers::whole))]
 fn many_digits(digits: &[u8]) -> Option<u64>
-    ensures { result ≡ option_and_then (within 0 (2 ^ 64 - 1)) (written 0 digits.now) }
+    ensures { result ≡ option_and_then (within 0 (2 ^ 64 - 1)) (digits_number 0 digits.now) }
 {
     let mut number: u64 = 0;
     for byte in digits {

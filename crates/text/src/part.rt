@@ -20,7 +20,7 @@ pub(crate) fn position(bytes: &[u8], separator: u8) -> Option<usize>
 
 /// The first part, and what follows its separator if there is one.
 #[tactic(auto, using(crate::proofs::Parts::first_ends, crate::proofs::Parts::only_one))]
-pub fn next_part(bytes: &[u8], separator: u8) -> (&[u8], Option<&[u8]>)
+pub(crate) fn next_part(bytes: &[u8], separator: u8) -> (&[u8], Option<&[u8]>)
     ensures parts { parts separator bytes.now ≡ result.0.now ∷ parts_after separator result.1 }
     ensures shorter { IfSome result.1 (λ r. length r.now < length bytes.now) }
 {

@@ -1,5 +1,5 @@
 //! The 64 bytes in front, looked at together: which of them are a separator.
-ghost use Rattle.std.specs.Prelude.{◌≡◌, ◌≢◌, ℕ, ◌<◌, ◌≤◌, length, slice_index, cond, ◌==◌};
+ghost use Rattle.std.specs.Prelude.{◌≡◌, ◌≢◌, ℕ, ◌<◌, ◌≤◌, length, slice_index, if◌then◌else◌, ◌==◌};
 ghost use Rattle.std.specs.Int.{bit_at};
 
 use std::simd::prelude::*;
@@ -11,7 +11,8 @@ pub(crate) const WINDOW: usize = 64;
 #[inline(always)]
 pub(crate) fn marks(bytes: &[u8], separator: u8) -> u64
     requires { 64 ≤ length bytes.now }
-    ensures { (k : ℕ) → k < 64 → bit_at result k ≡ cond (slice_index bytes.now k == separator) 1 0 }
+    ensures { (k : ℕ) → k < 64 →
+        bit_at result k ≡ (if slice_index bytes.now k == separator then 1 else 0) }
 {
     u8x64::from_slice(bytes)
         .simd_eq(u8x64::splat(separator))

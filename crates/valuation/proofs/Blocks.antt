@@ -7,14 +7,14 @@ use Rattle.account.specs.declared.line.Line.{Line}
 use Rattle.account.specs.declared.row.Row.{Row}
 use Rattle.account.specs.declared.row.Scope.{Scope}
 use Rattle.account.specs.declared.row.Scope.TheVariants.{FailedLines, HeldLines}
-use Rattle.account.specs.Lines.{Kind, failed, held, of, keep, any}
+use Rattle.account.specs.Lines.{is_in_block, keep, any}
+use Rattle.account.specs.declared.block.BlockName.{BlockName}
+use Rattle.account.specs.declared.block.BlockName.TheVariants.{Failed as failed, Held as held}
 use Rattle.account.specs.Settings.{Setting}
 use Rattle.account.specs.Rows.{row, block_row, if_any}
-use Rattle.valuation.specs.declared.block.BlockKind.{BlockKind}
-use Rattle.valuation.specs.declared.isin_sums.LineSums.{LineSums}
-use Rattle.valuation.specs.IsinSums.{SumsOf}
-use Rattle.valuation.specs.Kinds.{kind_of}
-use Rattle.valuation.specs.Scopes.{all_of, lines_in}
+use Rattle.valuation.specs.declared.line_sums.LineSums.{LineSums}
+use Rattle.valuation.specs.LineSums.{IsSumOf}
+use Rattle.valuation.specs.Scopes.{whole_scope, row_lines}
 use Rattle.valuation.proofs.Scopes.{lines_failed, lines_held, lines_of_block}
 
 -- ---- whether there are lines
@@ -49,15 +49,15 @@ any_count p (l ∷ ls) = go (p l) (any_count p ls)
     go true h = lt-ltb _ _ (omega arith)
     go false h = h
 
-pub some_lines : (s : Setting) (i : Isin) (k : Kind) (ls : List Line) {scope : Scope} {p : LineSums} → scope ≡ all_of k → SumsOf s i scope ls p → ltb 0 p.lines ≡ any (of i k) ls
-some_lines s i k ls e h = ap (ltb 0) (h.lines ∙ ap (λ c. length (lines_in s i c ls)) e ∙ ap length (lines_of_block s i k ls)) ∙ any_count (of i k) ls
+pub some_lines : (s : Setting) (i : Isin) (k : BlockName) (ls : List Line) {scope : Scope} {p : LineSums} → scope ≡ whole_scope k → IsSumOf s (row_lines s i scope ls) p → ltb 0 p.lines ≡ any (is_in_block i k) ls
+some_lines s i k ls e h = ap (ltb 0) (h.lines ∙ ap (λ c. length (row_lines s i c ls)) e ∙ ap length (lines_of_block s i k ls)) ∙ any_count (is_in_block i k) ls
 
 -- ---- by the name of the block
-pub failed_is : (s : Setting) (i : Isin) (ls : List Line) {r : Row} → r ≡ row s both_sides i FailedLines (lines_in s i FailedLines ls) → r ≡ block_row s i failed (keep (of i failed) ls)
+pub failed_is : (s : Setting) (i : Isin) (ls : List Line) {r : Row} → r ≡ row s both_sides i FailedLines (row_lines s i FailedLines ls) → r ≡ block_row s i failed (keep (is_in_block i failed) ls)
 failed_is s i ls e = e ∙ ap (row s both_sides i FailedLines) (lines_failed s i ls)
 
-pub held_is : (s : Setting) (i : Isin) (ls : List Line) {r : Row} → r ≡ row s both_sides i HeldLines (lines_in s i HeldLines ls) → r ≡ block_row s i held (keep (of i held) ls)
+pub held_is : (s : Setting) (i : Isin) (ls : List Line) {r : Row} → r ≡ row s both_sides i HeldLines (row_lines s i HeldLines ls) → r ≡ block_row s i held (keep (is_in_block i held) ls)
 held_is s i ls e = e ∙ ap (row s both_sides i HeldLines) (lines_held s i ls)
 
-pub block_is : (s : Setting) (i : Isin) (ls : List Line) {r : Row} {a b : BlockKind} → a ≡ b → r ≡ block_row s i (kind_of a) (keep (of i (kind_of a)) ls) → r ≡ block_row s i (kind_of b) (keep (of i (kind_of b)) ls)
-block_is s i ls {r} e h = subst (λ k. r ≡ block_row s i (kind_of k) (keep (of i (kind_of k)) ls)) e h
+pub block_is : (s : Setting) (i : Isin) (ls : List Line) {r : Row} {a b : BlockName} → a ≡ b → r ≡ block_row s i a (keep (is_in_block i a) ls) → r ≡ block_row s i b (keep (is_in_block i b) ls)
+block_is s i ls {r} e h = subst (λ k. r ≡ block_row s i k (keep (is_in_block i k) ls)) e h

@@ -6,8 +6,10 @@ use Rattle.quantities.specs.declared.isin.Isin.{Isin}
 use Rattle.account.specs.declared.by_isin.ByIsin.{ByIsin}
 use Rattle.account.specs.declared.line.Line.{Line}
 use Rattle.account.specs.ByIsin.{lines_in}
-use Rattle.account.specs.Lines.{Kind, trade, failed, held, cash_only, kind, same_kind, same_isin, of, keep}
-use Rattle.valuation.specs.Spaces.{count_of}
+use Rattle.account.specs.Lines.{block_name, is_same_block, same_isin, is_in_block, keep}
+use Rattle.account.specs.declared.block.BlockName.{BlockName}
+use Rattle.account.specs.declared.block.BlockName.TheVariants.{Trade as trade, Failed as failed, Held as held, CashOnly as cash_only}
+use Rattle.valuation.specs.Spaces.{isin_line_count}
 
 length_first : {X : Type 0} (p : X → Bool) (x : X) (xs : List X) → length (keep p (x ∷ xs)) ≡ cond (p x) 1 0 + length (keep p xs)
 length_first p x xs = go (p x)
@@ -16,21 +18,21 @@ length_first p x xs = go (p x)
     go true = omega arith
     go false = omega arith
 
-pub of_blocks : (i : Isin) (ls : List Line) → length (keep (of i trade) ls) + (length (keep (of i failed) ls) + (length (keep (of i held) ls) + length (keep (of i cash_only) ls))) ≡ count_of i ls
+pub of_blocks : (i : Isin) (ls : List Line) → length (keep (is_in_block i trade) ls) + (length (keep (is_in_block i failed) ls) + (length (keep (is_in_block i held) ls) + length (keep (is_in_block i cash_only) ls))) ≡ isin_line_count i ls
 of_blocks i [] = refl
 of_blocks i (l ∷ ls) =
     omega (
       arith,
-      length_first (of i trade) l ls,
-      length_first (of i failed) l ls,
-      length_first (of i held) l ls,
-      length_first (of i cash_only) l ls,
+      length_first (is_in_block i trade) l ls,
+      length_first (is_in_block i failed) l ls,
+      length_first (is_in_block i held) l ls,
+      length_first (is_in_block i cash_only) l ls,
       length_first (λ m. same_isin m.isin i) l ls,
-      go (same_isin l.isin i) (kind l.block),
+      go (same_isin l.isin i) (block_name l.block),
       of_blocks i ls,
     )
   where
-    go : (b : Bool) (k : Kind) → cond (b && same_kind k trade) 1 0 + (cond (b && same_kind k failed) 1 0 + (cond (b && same_kind k held) 1 0 + cond (b && same_kind k cash_only) 1 0)) ≡ cond b 1 0
+    go : (b : Bool) (k : BlockName) → cond (b && is_same_block k trade) 1 0 + (cond (b && is_same_block k failed) 1 0 + (cond (b && is_same_block k held) 1 0 + cond (b && is_same_block k cash_only) 1 0)) ≡ cond b 1 0
     go true trade = refl
     go true failed = refl
     go true held = refl
@@ -38,7 +40,7 @@ of_blocks i (l ∷ ls) =
     go false k = refl
 
 -- lines of one ISIN are all of it
-pub all_counted : (i : Isin) (xs : List ByIsin) → list_all (λ l. same_isin l.isin i) (lines_in xs) ≡ true → count_of i (lines_in xs) ≡ length xs
+pub all_counted : (i : Isin) (xs : List ByIsin) → list_all (λ l. same_isin l.isin i) (lines_in xs) ≡ true → isin_line_count i (lines_in xs) ≡ length xs
 all_counted i [] h = refl
 all_counted i (x ∷ xs) h =
     let p = and_parts (same_isin x.line.isin i) (list_all (λ l. same_isin l.isin i) (lines_in xs)) h in

@@ -13,14 +13,14 @@ use Rattle.account.specs.Margin.{margin, rounded_amounts}
 use Rattle.account.specs.Calls.{given}
 use Rattle.account.specs.Answers.{fault, answer_among}
 use Rattle.account.specs.declared.row.Row.{Row}
-use Rattle.valuation.specs.declared.margin.Statement.{Statement}
-use Rattle.valuation.specs.Statements.{Stated, States}
-use Rattle.valuation.specs.Checks.{number_or_zero, Faultless, Checked}
+use Rattle.valuation.specs.declared.stated_margin.StatedMargin.{StatedMargin}
+use Rattle.valuation.specs.Statements.{StatesMargin, States}
+use Rattle.valuation.specs.Checks.{number_or_zero, Faultless, FindsFirstFault}
 
 -- ---- line by line
 -- what a check says of the lines from k on, it says of all
 pub record Clear (s : Setting) (ls : List Line) (k : ℕ) : Type 0 where
-  pub rest : (r : Result (Unit {0}) LineRefusal) → Checked s (drop k ls) r → Checked s ls r
+  pub rest : (r : Result (Unit {0}) LineRefusal) → FindsFirstFault s (drop k ls) r → FindsFirstFault s ls r
 
 -- where the lines from k on have no fault, none has one
 pub record ClearTo (s : Setting) (xs : List ByIsin) (k : ℕ) : Type 0 where
@@ -42,5 +42,5 @@ clear_given s all [] h = refl
 clear_given s all (l ∷ ls) h = cond-true _ _ _ (eq-eqb (fault s l) 0 h.0) ∙ clear_given s all ls h.1
 
 -- so the margin that is stated is the answer
-pub states : {s : Setting} {ls : List Line} {before after : List Row} {r : Statement} → Faultless s ls → Stated s ls before after r → States s ls before after (Ok r)
+pub states : {s : Setting} {ls : List Line} {before after : List Row} {r : StatedMargin} → Faultless s ls → StatesMargin s ls before after r → States s ls before after (Ok r)
 states {s} {ls} f m = (ap₂ given m.cents m.rounded ∙ sym (clear_given s ls ls f), m.count, m.places)

@@ -6,14 +6,14 @@ use Rattle.quantities.specs.declared.isin.Isin.{Isin}
 use Rattle.account.specs.declared.by_isin.ByIsin.{ByIsin}
 use Rattle.account.specs.declared.line.Line.{Line}
 use Rattle.account.specs.declared.row.Scope.{Scope}
-use Rattle.account.specs.Lines.{kind, same_kind, same_isin, if_bought, if_sold, sum_of}
+use Rattle.account.specs.Lines.{block_name, is_same_block, same_isin, if_bought, if_sold, sum_of}
 use Rattle.account.specs.Rows.{block_of}
 use Rattle.account.specs.Settings.{Setting}
-use Rattle.valuation.specs.declared.isin_sums.LineSums.{LineSums}
-use Rattle.valuation.specs.IsinSums.{SumsOf, SumsWithin, WithLine}
-use Rattle.valuation.specs.Scopes.{takes_part, taken, picked, lines_in}
-use Rattle.valuation.specs.Sums.{cash_of}
-use Rattle.valuation.proofs.Picks.{no_line, line_at, Summed, summed_more, summed_all, Bounded, bounded_more, bounded_all, bounded_most, bought_most, sold_most}
+use Rattle.valuation.specs.declared.line_sums.LineSums.{LineSums}
+use Rattle.valuation.specs.LineSums.{IsSumOf, SumsWithin, AddsLine}
+use Rattle.valuation.specs.Scopes.{takes_part, is_in_scope, is_in_row, row_lines}
+use Rattle.valuation.specs.Cash.{cash_of}
+use Rattle.valuation.proofs.LineLoops.{no_line, line_at, Summed, summed_more, summed_all, Bounded, bounded_more, bounded_all, bounded_most, bought_most, sold_most}
 
 -- the line of a record, which is that among the lines
 abbrev pub record_at : List ByIsin → ℕ → Line
@@ -40,23 +40,23 @@ ones (l ∷ ls) = omega (arith, ones ls)
 
 -- the sums for a row, before the line k
 pub record SumsBefore (s : Setting) (i : Isin) (scope : Scope) (ls : List Line) (k : ℕ) (p : LineSums) : Type 0 where
-  pub lines : Adding 1 (λ l. 1) (picked s i scope) ls k p.lines
-  pub bought : Adding 2000000000000 (λ l. if_bought l.side l.titles) (picked s i scope) ls k p.titles.bought
-  pub sold : Adding 2000000000000 (λ l. if_sold l.side l.titles) (picked s i scope) ls k p.titles.sold
-  pub charged : Adding 2000000000000 (λ l. if_bought l.side (cash_of s l)) (picked s i scope) ls k p.cash.bought
-  pub credited : Adding 2000000000000 (λ l. if_sold l.side (cash_of s l)) (picked s i scope) ls k p.cash.sold
+  pub lines : Adding 1 (λ l. 1) (is_in_row s i scope) ls k p.lines
+  pub bought : Adding 2000000000000 (λ l. if_bought l.side l.titles) (is_in_row s i scope) ls k p.titles.bought
+  pub sold : Adding 2000000000000 (λ l. if_sold l.side l.titles) (is_in_row s i scope) ls k p.titles.sold
+  pub charged : Adding 2000000000000 (λ l. if_bought l.side (cash_of s l)) (is_in_row s i scope) ls k p.cash.bought
+  pub credited : Adding 2000000000000 (λ l. if_sold l.side (cash_of s l)) (is_in_row s i scope) ls k p.cash.sold
 
 module _ (s : Setting) (i : Isin) (scope : Scope) (ls : List Line) where
-  taken_is : (l : Line) → same_isin l.isin i ≡ true → taken s scope l ≡ picked s i scope l
-  taken_is l e = ap (λ b. (b && same_kind (kind l.block) (block_of scope)) && takes_part s scope l) (sym e)
+  scope_is_row : (l : Line) → same_isin l.isin i ≡ true → is_in_scope s scope l ≡ is_in_row s i scope l
+  scope_is_row l e = ap (λ b. (b && is_same_block (block_name l.block) (block_of scope)) && takes_part s scope l) (sym e)
 
   before_more : {k cash : ℕ} {p q : LineSums} → k < length ls → same_isin (line_at ls k).isin i ≡ true → (line_at ls k).titles ≤ most_titles → cash ≡ cash_of s (line_at ls k) → cash ≤ 2000000000000 →
-      WithLine (taken s scope (line_at ls k)) (line_at ls k) cash p q → SumsBefore s i scope ls k p → SumsBefore s i scope ls (k + 1) q
+      AddsLine s scope (line_at ls k) cash p q → SumsBefore s i scope ls k p → SumsBefore s i scope ls (k + 1) q
   before_more {k} {cash} {p} h e few c m w a =
       let l = line_at ls k in
       let d : l.titles ≤ 2000000000000 = omega arith in
-      let t = taken s scope l in
-      let u = taken_is l e in
+      let t = is_in_scope s scope l in
+      let u = scope_is_row l e in
       let n : cash_of s l ≤ 2000000000000 = omega arith in
       record {
         lines = adding_more t h u (omega arith) w.lines a.lines;
@@ -68,9 +68,9 @@ module _ (s : Setting) (i : Isin) (scope : Scope) (ls : List Line) where
 
   -- the same, where the line is one by another name
   pub before_next : {k cash : ℕ} {l : Line} {p q : LineSums} → line_at ls k ≡ l → k < length ls → same_isin (line_at ls k).isin i ≡ true → (line_at ls k).titles ≤ most_titles → cash ≡ cash_of s l → cash ≤ 2000000000000 →
-      WithLine (taken s scope l) l cash p q → SumsBefore s i scope ls k p → SumsBefore s i scope ls (k + 1) q
+      AddsLine s scope l cash p q → SumsBefore s i scope ls k p → SumsBefore s i scope ls (k + 1) q
   before_next {k} {cash} {l} {p} {q} d h e few c m w a =
-      before_more h e few (subst (λ x. cash ≡ cash_of s x) (sym d) c) m (subst (λ x. WithLine (taken s scope x) x cash p q) (sym d) w) a
+      before_more h e few (subst (λ x. cash ≡ cash_of s x) (sym d) c) m (subst (λ x. AddsLine s scope x cash p q) (sym d) w) a
 
   pub before_room : {k : ℕ} {p : LineSums} → length ls ≤ 65535 → SumsBefore s i scope ls k p → SumsWithin 65535 p
   before_room few a =
@@ -80,10 +80,10 @@ module _ (s : Setting) (i : Isin) (scope : Scope) (ls : List Line) where
         cash = record { bought = omega (arith, bounded_most a.charged.high); sold = omega (arith, bounded_most a.credited.high) };
       }
 
-  pub before_end : {k : ℕ} {p : LineSums} → length ls ≤ k → SumsBefore s i scope ls k p → SumsOf s i scope ls p
+  pub before_end : {k : ℕ} {p : LineSums} → length ls ≤ k → SumsBefore s i scope ls k p → IsSumOf s (row_lines s i scope ls) p
   before_end h a =
       record {
-        lines = summed_all h a.lines.sum ∙ ones (lines_in s i scope ls);
+        lines = summed_all h a.lines.sum ∙ ones (row_lines s i scope ls);
         titles = record { bought = summed_all h a.bought.sum; sold = summed_all h a.sold.sum };
         cash = record { bought = summed_all h a.charged.sum; sold = summed_all h a.credited.sum };
         within = record { bought = bounded_all a.charged.high; sold = bounded_all a.credited.high };

@@ -7,10 +7,10 @@ use Rattle.quantities.specs.Dates.{residual_life}
 use Rattle.quantities.specs.Tranches.{tranche}
 use Rattle.register.specs.Keys.{has_rank, found_by}
 use Rattle.market.specs.declared.price.Price.{Price}
-use Rattle.market.specs.declared.price.Percentage.{Percentage}
+use Rattle.market.specs.declared.percentage.Percentage.{Percentage}
 use Rattle.market.specs.Records.{isin_rank, price_rank, percentage_rank}
 use Rattle.market.specs.Contents.{percentage_for}
-use Rattle.account.specs.Settings.{Setting, has_price, has_percentage, unit_price, maturity, tranche_of}
+use Rattle.account.specs.Settings.{Setting, has_price, has_percentage, unit_price, maturity, tranche_of, millionths_or_zero, maturity_or_zero, basis_points_or_zero}
 use Rattle.valuation.specs.Quotes.{quote_answer}
 
 -- a rank is present where it is found
@@ -32,7 +32,7 @@ unpriced s i e =
 
 -- a percentage that was found, in basis points
 abbrev points : Option Percentage → ℕ
-points o = elim o [ Some p ↦ p.percentage.basis_points | None ↦ 0 ]
+points o = basis_points_or_zero o
 
 some_percentage : (o : Option Percentage) (q : MarginPercentage) → Some q ≡ option_map (λ p. p.percentage) o → (is_some o ≡ true) × (points o ≡ q.basis_points)
 some_percentage (Some p) q e = let d : p.percentage ≡ q = cc in (refl, ap (λ x. x.basis_points) d)
@@ -47,10 +47,10 @@ module _ (s : Setting) (i : Isin) (p : Price) (found_price : Some p ≡ price_fo
   priced = found price_rank (isin_rank i) s.prices ∙ ap is_some (sym found_price)
 
   worth : unit_price s i ≡ p.price.millionths
-  worth = ap (λ o. elim o [ Some p ↦ p.price.millionths | None ↦ 0 ]) (sym found_price)
+  worth = ap millionths_or_zero (sym found_price)
 
   matures : maturity s i ≡ p.maturity
-  matures = ap (λ o. elim o [ Some p ↦ p.maturity | None ↦ 0 ]) (sym found_price)
+  matures = ap maturity_or_zero (sym found_price)
 
   looked_up : found_by percentage_rank (tranche_of s i) s.percentages ≡ found_by percentage_rank (tranche life) s.percentages
   looked_up = ap (λ m. found_by percentage_rank (tranche (residual_life s.today m)) s.percentages) matures ∙ ap (λ n. found_by percentage_rank (tranche n) s.percentages) (sym (lives ∙ ap (λ n. residual_life n p.maturity) is_today))

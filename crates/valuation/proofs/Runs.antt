@@ -11,12 +11,14 @@ use Rattle.market.specs.Records.{isin_rank}
 use Rattle.account.specs.declared.by_isin.ByIsin.{ByIsin}
 use Rattle.account.specs.declared.line.Line.{Line}
 use Rattle.account.specs.ByIsin.{lines_in}
-use Rattle.account.specs.Lines.{Kind, trade, failed, held, cash_only, same_isin, of, keep, has_isin, with_isin, isins, TwelveBytes}
+use Rattle.account.specs.Lines.{same_isin, is_in_block, keep, has_isin, with_isin, isins, TwelveBytes}
+use Rattle.account.specs.declared.block.BlockName.{BlockName}
+use Rattle.account.specs.declared.block.BlockName.TheVariants.{Trade as trade, Failed as failed, Held as held, CashOnly as cash_only}
 use Rattle.account.specs.Settings.{Setting}
-use Rattle.account.specs.Rows.{block_row, if_any, block_rows, isin_rows, rows_over, statement_rows}
+use Rattle.account.specs.Rows.{block_row, if_any, block_rows, isin_rows, rows_of_isins, statement_rows}
 use Rattle.account.proofs.Ordered.{ranks_apart}
 use Rattle.account.proofs.Terms.{same_isin_decides}
-use Rattle.valuation.specs.Walk.{OtherFirst, EachAfter, Rises}
+use Rattle.valuation.specs.IsinOrder.{OtherFirst, Rises}
 
 -- each line is of the ISIN
 abbrev pub EachOf : Isin → List Line → Type 0
@@ -26,6 +28,11 @@ EachOf i (l ∷ ls) = (l.isin ≡ i) × EachOf i ls
 pub each_of : (i : Isin) (ls : List Line) → list_all (λ l. same_isin l.isin i) ls ≡ true → EachOf i ls
 each_of i [] h = tt
 each_of i (l ∷ ls) h = let p = and_parts (same_isin l.isin i) (list_all (λ m. same_isin m.isin i) ls) h in ((same_isin_decides l.isin i).0 p.0, each_of i ls p.1)
+
+-- each line is of an ISIN that comes after that one
+abbrev pub EachAfter : Isin → List Line → Type 0
+EachAfter i [] = Unit {0}
+EachAfter i (l ∷ ls) = (isin_rank i < isin_rank l.isin) × EachAfter i ls
 
 -- ---- what stands after the lines of an ISIN
 rises_on : (n : ℕ) (i : Isin) (ls ms : List Line) → EachOf i ls → 1 ≤ length ls → Rises n (ls ++ ms) → Rises (isin_rank i) ms
@@ -58,11 +65,11 @@ kept_joined p (l ∷ ls) ms = ap (λ ks. cond (p l) (l ∷ ks) ks) (kept_joined 
     go true = refl
     go false = refl
 
-none_after : (i : Isin) (k : Kind) (ls : List Line) → EachAfter i ls → keep (of i k) ls ≡ []
+none_after : (i : Isin) (k : BlockName) (ls : List Line) → EachAfter i ls → keep (is_in_block i k) ls ≡ []
 none_after i k [] h = refl
 none_after i k (l ∷ ls) h = let e = apart_back i l.isin h.0 in rw e (none_after i k ls h.1)
 
-none_before : (i j : Isin) (k : Kind) (ls : List Line) → isin_rank i < isin_rank j → EachOf i ls → keep (of j k) ls ≡ []
+none_before : (i j : Isin) (k : BlockName) (ls : List Line) → isin_rank i < isin_rank j → EachOf i ls → keep (is_in_block j k) ls ≡ []
 none_before i j k [] h e = refl
 none_before i j k (l ∷ ls) h e =
     let d : same_isin l.isin j ≡ false = ap (λ h. same_isin h j) e.0 ∙ apart i j h in
@@ -103,26 +110,26 @@ run_isins i (l ∷ (k ∷ ls)) ms e h a = ap₂ with_isin e.0 (run_isins i (k �
 
 -- ---- their rows
 module _ (s : Setting) (i : Isin) (ls ms : List Line) (e : EachOf i ls) (a : EachAfter i ms) where
-  kept_here : (k : Kind) → keep (of i k) (ls ++ ms) ≡ keep (of i k) ls
-  kept_here k = kept_joined (of i k) ls ms ∙ ap (λ ks. keep (of i k) ls ++ ks) (none_after i k ms a) ∙ append-nil _
+  kept_here : (k : BlockName) → keep (is_in_block i k) (ls ++ ms) ≡ keep (is_in_block i k) ls
+  kept_here k = kept_joined (is_in_block i k) ls ms ∙ ap (λ ks. keep (is_in_block i k) ls ++ ks) (none_after i k ms a) ∙ append-nil _
 
-  kept_there : (j : Isin) (k : Kind) → isin_rank i < isin_rank j → keep (of j k) (ls ++ ms) ≡ keep (of j k) ms
-  kept_there j k h = kept_joined (of j k) ls ms ∙ ap (λ ks. ks ++ keep (of j k) ms) (none_before i j k ls h e)
+  kept_there : (j : Isin) (k : BlockName) → isin_rank i < isin_rank j → keep (is_in_block j k) (ls ++ ms) ≡ keep (is_in_block j k) ms
+  kept_there j k h = kept_joined (is_in_block j k) ls ms ∙ ap (λ ks. ks ++ keep (is_in_block j k) ms) (none_before i j k ls h e)
 
-  rows_of : (j : Isin) (xs ys : List Line) → ((k : Kind) → keep (of j k) xs ≡ keep (of j k) ys) → isin_rows s xs j ≡ isin_rows s ys j
+  rows_of : (j : Isin) (xs ys : List Line) → ((k : BlockName) → keep (is_in_block j k) xs ≡ keep (is_in_block j k) ys) → isin_rows s xs j ≡ isin_rows s ys j
   rows_of j xs ys same = ap₂ ◌++◌ (block trade) (ap₂ ◌++◌ (block failed) (ap₂ ◌++◌ (block held) (block cash_only)))
     where
-      block : (k : Kind) → block_rows s xs j k ≡ block_rows s ys j k
+      block : (k : BlockName) → block_rows s xs j k ≡ block_rows s ys j k
       block k = ap (λ ks. if_any ks (block_row s j k ks)) (same k)
 
-  rows_there : (js : List Isin) → Above i js → rows_over s (ls ++ ms) js ≡ rows_over s ms js
+  rows_there : (js : List Isin) → Above i js → rows_of_isins s (ls ++ ms) js ≡ rows_of_isins s ms js
   rows_there [] h = refl
   rows_there (j ∷ js) h = ap₂ ◌++◌ (rows_of j (ls ++ ms) ms (λ k. kept_there j k h.0)) (rows_there js h.1)
 
   -- the rows of the first ISIN, and then those of the lines that come after
   pub rows_parted : 1 ≤ length ls → statement_rows s (ls ++ ms) ≡ isin_rows s ls i ++ statement_rows s ms
   rows_parted h =
-      ap (rows_over s (ls ++ ms)) (run_isins i ls ms e h a)
+      ap (rows_of_isins s (ls ++ ms)) (run_isins i ls ms e h a)
       ∙ ap₂ ◌++◌ (rows_of i (ls ++ ms) ls kept_here) (rows_there (isins ms) (above_isins i ms a))
 
 -- the rest comes after

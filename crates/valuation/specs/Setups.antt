@@ -18,5 +18,7 @@ setting_with reach rate charged m =
     }
 
 -- the setting of a setup, by the meanings of its curve and rule
-abbrev pub setting_of : {C N : Type 0} → (C → ℕ) → (C → ℕ → ℤ) → (N → ℕ → ℕ → ℕ) → Setup C N → Setting
-setting_of reach rate charged s = setting_with (reach s.curve.now) (rate s.curve.now) (charged s.rule.now) s.market.now
+abbrev pub setting_of
+    : {C N : Type 0} → (C → ℕ) → (C → ℕ → ℤ) → (N → ℕ → ℕ → ℕ) → Setup C N → Setting
+setting_of reach rate charged s =
+    setting_with (reach s.curve.now) (rate s.curve.now) (charged s.rule.now) s.market.now

@@ -1,15 +1,17 @@
--- How large rows, and a tally of them, come to be: at most 3,000,000,000,000 cents in each block for each line.
+-- How large rows, and a tally of them, come to be: at most 3,000,000,000,000 cents in each block
+-- for each line.
 use Rattle.std.specs.Prelude.{ℕ, ◌+◌, ◌*◌, ◌≤◌, List, length, ℤ, pos, neg_ℤ, ◌≤ℤ◌}
 use Rattle.quantities.specs.declared.isin.Isin.{Isin}
 use Rattle.account.specs.declared.line.Line.{Line}
 use Rattle.account.specs.declared.row.Row.{Row}
-use Rattle.account.specs.Lines.{Kind, same_isin, keep, sum_of}
+use Rattle.account.specs.Lines.{same_isin, keep, sum_of}
+use Rattle.account.specs.declared.block.BlockName.{BlockName}
 use Rattle.valuation.specs.declared.tally.Tally.{Tally}
-use Rattle.valuation.specs.Tallies.{block_charges, amounts_of}
+use Rattle.valuation.specs.Tallies.{block_charges, rounded_count}
 
 -- how many lines are of an ISIN
-abbrev pub count_of : Isin → List Line → ℕ
-count_of i ls = length (keep (λ l. same_isin l.isin i) ls)
+abbrev pub isin_line_count : Isin → List Line → ℕ
+isin_line_count i ls = length (keep (λ l. same_isin l.isin i) ls)
 
 -- the charges of n lines, of either sign
 pub record ChargesWithin (n : ℕ) (z : ℤ) : Type 0 where
@@ -19,8 +21,8 @@ pub record ChargesWithin (n : ℕ) (z : ℤ) : Type 0 where
 -- rows of n lines
 pub record RowsWithin (n : ℕ) (rows : List Row) : Type 0 where
   pub few : length rows ≤ n
-  pub charged : (k : Kind) → ChargesWithin n (block_charges k rows)
-  pub rounded : sum_of amounts_of rows ≤ 2 * n
+  pub charged : (k : BlockName) → ChargesWithin n (block_charges k rows)
+  pub rounded : sum_of rounded_count rows ≤ 2 * n
 
 -- a tally of the rows of n lines
 pub record TallyWithin (n : ℕ) (t : Tally) : Type 0 where
@@ -32,7 +34,7 @@ pub record TallyWithin (n : ℕ) (t : Tally) : Type 0 where
   pub rounded : t.rounded_amounts ≤ 2 * n
 
 -- a tally that can take the rows of n more lines
-pub record Space (n : ℕ) (t : Tally) : Type 0 where
+pub record HasSpaceFor (n : ℕ) (t : Tally) : Type 0 where
   pub so_far : ℕ
   pub within : TallyWithin so_far t
   pub few : so_far + n ≤ 65535

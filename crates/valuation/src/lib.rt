@@ -2,18 +2,19 @@
 #![tactic(auto)]
 
 mod basis;
-pub mod block;
+mod cash;
 mod check;
 mod isin_lines;
 mod isin_sums;
-pub mod margin;
+mod line_sums;
+mod lookups;
+mod per_side;
 pub mod portfolio;
 mod quote;
-mod ready;
-mod rows;
+mod ready_lines;
+mod row_charges;
 mod scope;
 pub mod setup;
-mod summed;
-mod sums;
+pub mod stated_margin;
+mod summed_lines;
 mod tally;
-mod walk;

@@ -1,11 +1,11 @@
 //! Points by term, in lent memory.
-ghost use Rattle.std.specs.Prelude.{◌≡◌, ◌≤◌, min, [], length};
+ghost use Rattle.std.specs.Prelude.{◌≡◌, ◌≤◌, min, [], length, Some, OnOk};
+ghost use Rattle.register.specs.Changes.{insert_answer, insert_after, Finds};
 ghost use Rattle.register.specs.Keys.{Ascends, below_rank, from_rank};
-ghost use Rattle.register.specs.Search.{Parts};
-ghost use Rattle.curve.specs.Points.{Adds};
+ghost use Rattle.register.specs.Search.{SplitsAt};
+ghost use Rattle.curve.specs.Points.{point_rank};
 
 use super::Point;
-use quantities::range::Rate;
 use quantities::refusal::Refusal;
 use register::register::Register;
 use std::marker::Model;
@@ -21,10 +21,10 @@ pub struct Points<'a> {
 
 // A clause sees the points and how many there may be.
 impl<'a> Model for Points<'a> {
-    ghost use Rattle.register.specs.Contents.{Held};
+    ghost use Rattle.register.specs.Contents.{Table};
     ghost use Rattle.curve.specs.declared.point.Point.{Point};
 
-    ghost Value = { Held Point };
+    ghost Value = { Table Point };
 
     ghost view = { λ points. points.list };
 }
@@ -46,7 +46,7 @@ impl<'a> Points<'a> {
     /// The points by term.
     pub fn records(&self) -> &[Point]
         ensures all { result.now ≡ self.now.records }
-        ensures ascends { Ascends (λ p. p.term) self.now.records }
+        ensures ascends { Ascends point_rank self.now.records }
         ensures within { length self.now.records ≤ self.now.room }
         ensures few { self.now.room ≤ 65535 }
     {
@@ -55,28 +55,32 @@ impl<'a> Points<'a> {
 
     /// The points of terms below that one, and those from it on.
     pub fn split_at(&self, term: u16) -> (&[Point], &[Point])
-        ensures below { result.0.now ≡ below_rank (λ p. p.term) term self.now.records }
-        ensures from { result.1.now ≡ from_rank (λ p. p.term) term self.now.records }
-        ensures ascends { Ascends (λ p. p.term) self.now.records }
+        ensures below { result.0.now ≡ below_rank point_rank term self.now.records }
+        ensures from { result.1.now ≡ from_rank point_rank term self.now.records }
+        ensures ascends { Ascends point_rank self.now.records }
     {
         let points = self.records();
         points.split_at(first_from(points, term))
     }
 
-    /// Puts a point in by its term.
-    pub fn add(&mut self, term: u16, rate: i16) -> Result<(), Refusal>
-        ensures change { Adds self.old.room term rate self.old.records result self.new.records }
-        ensures room { self.new.room ≡ self.old.room }
+    /// Puts a point in by its term; refuses a term that has a point, then a point without a place.
+    pub fn add(&mut self, point: Point) -> Result<(), Refusal>
+        ensures answer { result ≡ insert_answer point_rank self.old.room point self.old.records }
+        ensures after { self.new ≡ record self.old {
+          records = insert_after point_rank self.old.room point self.old.records;
+        } }
+        ensures ascends { Ascends point_rank self.new.records }
+        ensures found { OnOk result
+            (Finds point_rank point.term (Some point) self.old.records self.new.records) }
     {
-        let rate = Rate::try_from(rate)?;
-        self.list.insert(Point::new(term, rate))
+        self.list.insert(point)
     }
 }
 
 // The place of the first point from a term on. Points are few: they are sooner passed than halved.
 fn first_from(points: &[Point], term: u16) -> usize
-    requires { Ascends (λ p. p.term) points.now }
-    ensures parts { Parts (λ p. p.term) term points.now result }
+    requires { Ascends point_rank points.now }
+    ensures parts { SplitsAt point_rank term points.now result }
     ensures within { result ≤ length points.now }
 {
     let mut at = 0;

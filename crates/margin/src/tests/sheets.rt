@@ -56,7 +56,7 @@ DATE;;TITLES;REF;BLOCK;CASH;NOTE;SIDE;ISIN
 END;4
 ";
 
-/// What both give.
+/// The statement that both give.
 pub const STATEMENT: &str = "STM;1
 ISIN;BLOCK;SCEN;IM;VM
 ES0000001018;T;3;2020000;1000000

@@ -1,12 +1,12 @@
-use Rattle.std.proofs.Common.{rules, ◌≡◌, ◌^◌, ◌<◌, ◌≤◌, length, Err, pos, neg_ℤ, ap, ◌∙◌, arith, w64, to_z, of_z}
+use Rattle.std.proofs.Common.{rules, ◌≡◌, ◌^◌, ◌<◌, length, Err, pos, neg_ℤ, ap, ◌∙◌, arith, w64, to_z, of_z}
 use Rattle.std.proofs.lemmas.Int.{ints, to_z_pos}
 use Rattle.run.specs.Runs.{run}
-use Rattle.run.specs.Refusals.{told_refusal}
+use Rattle.run.specs.Refusals.{placed_refusal}
 use Rattle.margin_c.proofs.Outcomes.{refused_is, Given, given_is, given_within}
 use Rattle.margin_c.proofs.margin_run_told.Goals as goal
 use Rattle.margin_c.proofs.margin_run_told.Goals.{After-from, In-Ok}
 
-refused : (c : After-from) → run c.args.sheets.now (length c.args.statement.now) ≡ Err (told_refusal c.in-Err.refused)
+refused : (c : After-from) → run c.args.sheets.now (length c.args.statement.now) ≡ Err (placed_refusal c.in-Err.refused)
 refused c = refused_is (run c.args.sheets.now (length c.args.statement.now)) c.in-Err.refused _ _ c.in-Err.ensures.answer
 
 given : (c : In-Ok) → Given (run c.args.sheets.now (length c.args.statement.now)) c.in-Ok.length c.args.statement.now c.run.new.buffer

@@ -1,15 +1,15 @@
 //! The one row of the day's sheet.
-ghost use Rattle.std.specs.Prelude.{◌≡◌, None, Ok, Err, Option, MatchResult};
+ghost use Rattle.std.specs.Prelude.{Ok, Option};
 ghost use Rattle.std.specs.Option.{option_map};
 ghost use Rattle.rows.specs.declared.day.DayRow.{DayRow};
 ghost use Rattle.run.specs.Kept.{keep_day};
-ghost use Rattle.run.specs.Days.{row_of};
-ghost use Rattle.run.specs.Refusals.{told_refusal};
+ghost use Rattle.run.specs.Days.{day_row};
+ghost use Rattle.run.specs.Refusals.{GivesOutcome};
 ghost use Rattle.run.specs.Runs.{one_day};
 
 use crate::keeper::Keeper;
+use crate::read_sheet::ReadSheet;
 use crate::refusal::RunRefusal;
-use crate::through::Through;
 use account::call::LineRefusal;
 use market::day::Day;
 use quantities::refusal::Refusal;
@@ -32,7 +32,7 @@ pub struct DayKeeper {
 impl Keeper<DayRow> for DayKeeper {
     ghost Kept = { Option DayRow };
 
-    ghost kept = { λ keeper. option_map row_of keeper.day };
+    ghost kept = { λ keeper. option_map day_row keeper.day };
 
     ghost keeping = { keep_day };
 
@@ -54,15 +54,17 @@ impl Keeper<DayRow> for DayKeeper {
 }
 
 impl DayKeeper {
-    /// The day of a sheet that is read to its end and has just one row; else the sheet is refused at its trailer.
-    pub fn one(&self, through: &Through<'_>) -> Result<KeptDay, RunRefusal>
-        ensures { MatchResult result
-            (λ day. one_day (record { kept = option_map row_of self.now.day; rows = through.now.rows; left = through.now.left }) ≡ Ok (row_of day))
-            (λ e. one_day (record { kept = option_map row_of self.now.day; rows = through.now.rows; left = through.now.left }) ≡ Err (told_refusal e)) }
+    /// The day of a sheet that is read to its end and has just one row; else the sheet is refused
+    /// at its trailer.
+    pub(crate) fn one(&self, sheet: &ReadSheet<'_>) -> Result<KeptDay, RunRefusal>
+        ensures { let kept = option_map day_row self.now.day in
+            GivesOutcome
+            (one_day (record { kept = kept; rows = sheet.now.rows; left = sheet.now.left }))
+            (λ day. Ok (day_row day)) result }
     {
         match self.day {
-            Some(day) if through.rows == 1 => Ok(day),
-            _ => Err(RunRefusal::of_sheet(Refusal::Trailer, through.left.line().saturating_sub(1))),
+            Some(day) if sheet.rows == 1 => Ok(day),
+            _ => Err(RunRefusal::of_sheet(Refusal::Trailer, sheet.left.line().saturating_sub(1))),
         }
     }
 }

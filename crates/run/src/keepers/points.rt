@@ -1,16 +1,16 @@
 //! The points of a curve keep the rows of points.
 ghost use Rattle.curve.specs.declared.point.Point.{Point};
-ghost use Rattle.register.specs.Contents.{Held};
+ghost use Rattle.register.specs.Contents.{Table};
 ghost use Rattle.run.specs.Kept.{keep_point};
 
-use super::referred;
+use super::answer_with_reference;
 use crate::keeper::Keeper;
 use account::call::LineRefusal;
+use curve::point::Point;
 use curve::point::points::Points;
-use rows::point::PointRow;
 
-impl<'a> Keeper<PointRow> for Points<'a> {
-    ghost Kept = { Held Point };
+impl<'a> Keeper<Point> for Points<'a> {
+    ghost Kept = { Table Point };
 
     ghost kept = { λ points. points };
 
@@ -20,7 +20,7 @@ impl<'a> Keeper<PointRow> for Points<'a> {
 
     ghost frame = { λ _. tt };
 
-    fn keep(&mut self, row: PointRow) -> Result<(), LineRefusal> {
-        referred(0, self.add(row.term, row.rate))
+    fn keep(&mut self, row: Point) -> Result<(), LineRefusal> {
+        answer_with_reference(0, self.add(row))
     }
 }

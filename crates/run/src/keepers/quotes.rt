@@ -3,14 +3,14 @@ ghost use Rattle.std.specs.Prelude.{ℕ};
 ghost use Rattle.market.specs.Contents.{Quotes};
 ghost use Rattle.run.specs.Kept.{keep_price, keep_percentage};
 
-use super::referred;
+use super::answer_with_reference;
 use crate::keeper::Keeper;
 use account::call::LineRefusal;
 use market::market::Market;
-use rows::percentage::PercentageRow;
-use rows::price::PriceRow;
+use market::percentage::Percentage;
+use market::price::Price;
 
-impl<'a> Keeper<PriceRow> for Market<'a> {
+impl<'a> Keeper<Price> for Market<'a> {
     ghost Kept = { Quotes };
 
     ghost kept = { λ m. m };
@@ -21,12 +21,12 @@ impl<'a> Keeper<PriceRow> for Market<'a> {
 
     ghost frame = { λ m. (m.today, (m.next, m.room)) };
 
-    fn keep(&mut self, row: PriceRow) -> Result<(), LineRefusal> {
-        referred(0, self.add_price(row.isin, row.price, row.maturity))
+    fn keep(&mut self, row: Price) -> Result<(), LineRefusal> {
+        answer_with_reference(0, self.add_price(row))
     }
 }
 
-impl<'a> Keeper<PercentageRow> for Market<'a> {
+impl<'a> Keeper<Percentage> for Market<'a> {
     ghost Kept = { Quotes };
 
     ghost kept = { λ m. m };
@@ -37,7 +37,7 @@ impl<'a> Keeper<PercentageRow> for Market<'a> {
 
     ghost frame = { λ m. (m.today, (m.next, m.room)) };
 
-    fn keep(&mut self, row: PercentageRow) -> Result<(), LineRefusal> {
-        referred(0, self.add_percentage(row.tranche, row.percentage))
+    fn keep(&mut self, row: Percentage) -> Result<(), LineRefusal> {
+        answer_with_reference(0, self.add_percentage(row))
     }
 }

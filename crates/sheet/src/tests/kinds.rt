@@ -36,7 +36,10 @@ impl RowKind for Lots {
       mark = codes "LOT";
       needed = codes "TITLES" ∷ (codes "PRICE" ∷ []);
       fits = λ cell. is_some (number_in 1 900 (cell 0)) ∷ (is_some (number_in 0 99 (cell 1)) ∷ []);
-      row = λ cell. record { titles = unwrap_or (number_in 1 900 (cell 0)) 0; price = unwrap_or (number_in 0 99 (cell 1)) 0 };
+      row = λ cell. record {
+        titles = unwrap_or (number_in 1 900 (cell 0)) 0;
+        price = unwrap_or (number_in 0 99 (cell 1)) 0;
+      };
     } };
 
     fn name(column: usize) -> &'static [u8] {

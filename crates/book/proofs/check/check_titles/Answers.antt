@@ -1,18 +1,18 @@
 use Rattle.std.proofs.Common.{◌≡◌, ◌++◌, ap, ◌∙◌, refl, arith}
 use Rattle.std.proofs.lemmas.Bool.{le-leb, lt-leb}
-use Rattle.account.specs.Lines.{kind}
+use Rattle.account.specs.Lines.{block_name}
 use Rattle.account.specs.Answers.{titles_of}
 use Rattle.account.specs.ByIsin.{lines_in}
-use Rattle.valuation.specs.Kinds.{kind_of}
-use Rattle.book.proofs.Beside.{chained_titles, titles_beside}
+use Rattle.book.specs.LineChecks.{titles_around}
+use Rattle.book.proofs.TitlesAround.{titles_around-together}
 use Rattle.book.proofs.check.check_titles.Goals as goal
 use Rattle.book.proofs.check.check_titles.Goals.{After-from}
 
 module _ (c : After-from) where
-  both : chained_titles c.args.line.now.isin (kind_of c.from.result) c.args.before.now c.args.after.now ≡ titles_of c.args.line.now.isin (kind c.args.line.now.block) (lines_in (c.args.before.now ++ c.args.after.now))
+  both : titles_around c.args.line.now.isin c.from.result c.args.before.now c.args.after.now ≡ titles_of c.args.line.now.isin (block_name c.args.line.now.block) (lines_in (c.args.before.now ++ c.args.after.now))
   both =
       let i = c.args.line.now.isin in
-      titles_beside i (kind_of c.from.result) c.args.before.now c.args.after.now c.requires.beside
+      titles_around-together i c.from.result c.args.before.now c.args.after.now c.requires.together
       ∙ ap (λ k. titles_of i k (lines_in (c.args.before.now ++ c.args.after.now))) c.from.ensures
 
 pub titles_standing-standing-requires : goal.titles_standing-standing-requires

@@ -1,11 +1,11 @@
 use Rattle.std.proofs.Common.{rules, ◌≡◌, false, length, nat_lt}
 use Rattle.run.specs.Runs.{most_bytes, run}
-use Rattle.run.specs.Answers.{Ran}
+use Rattle.run.specs.Answers.{WritesText}
 use Rattle.run.proofs.Promised.{promised, layered}
 use Rattle.run.proofs.run.run.Goals as goal
 use Rattle.run.proofs.run.run.Goals.{After-work}
 
-ran : (c : After-work) → Ran (run c.args.sheets.now (length c.args.buffer.now)) c.work.result c.args.buffer.now c.work.new.buffer
+ran : (c : After-work) → WritesText (run c.args.sheets.now (length c.args.buffer.now)) c.work.result c.args.buffer.now c.work.new.buffer
 ran c =
     let short : nat_lt most_bytes (length c.args.sheets.now) ≡ false = search rules in
     rw short c.work.ensures

@@ -1,6 +1,6 @@
 use Rattle.std.proofs.Common.{◌≡◌, ◌<◌, length, drop, IfSome}
-use Rattle.sheet.specs.Found.{one_place}
-use Rattle.sheet.proofs.Named.{onwards, texts}
+use Rattle.sheet.specs.Columns.{texts, one_place}
+use Rattle.sheet.proofs.Named.{onwards}
 use Rattle.sheet.proofs.columns.one_place.Given as goal
 
 abbrev pub invariant-loop-place : goal.invariant-loop-place

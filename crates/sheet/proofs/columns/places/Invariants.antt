@@ -1,6 +1,6 @@
 use Rattle.std.proofs.Common.{◌≡◌, length, take, drop}
+use Rattle.sheet.specs.Columns.{texts}
 use Rattle.sheet.specs.Sheets.{are_named, places_of}
-use Rattle.sheet.proofs.Named.{texts}
 use Rattle.sheet.proofs.columns.places.Given as goal
 
 abbrev pub invariant-loop-column : goal.invariant-loop-column

@@ -1,16 +1,16 @@
 use Rattle.std.proofs.Common.{◌<◌, true, length, sym, ◌∙◌, arith}
-use Rattle.sheet.specs.Kinds.{numbered}
+use Rattle.sheet.specs.Kinds.{cell_at}
 use Rattle.sheet.proofs.Leftmost.{fits_here, first_misfit, right_of, left_of}
 use Rattle.sheet.proofs.row.leftmost_misfit.Goals as goal
 use Rattle.sheet.proofs.row.leftmost_misfit.Goals.{then-fits, else-fits+in-Some, else-fits+in_default-2, in_default-2-via-in-Some+else-left-place, in_default-2-via-in_default-2}
 
 pub loop-column-preserved : goal.loop-column-preserved
 loop-column-preserved g c =
-    let fits = g.K.RowKind.kind.fits (numbered c.args.cells.now) in
+    let fits = g.K.RowKind.kind.fits (cell_at c.args.cells.now) in
     let places = c.args.places.now in
     let i = c.loop-column.column in
     let m = c.loop-column-test.true in
-    let l : i < length fits = omega (arith, g.met.K.RowKind.judged (numbered c.args.cells.now), c.requires) in
+    let l : i < length fits = omega (arith, g.met.K.RowKind.judged (cell_at c.args.cells.now), c.requires) in
     let here = c.fits.ensures in
     let before = c.loop-column.invariant in
     elim c.if-fits.branch [

@@ -1,6 +1,6 @@
 use Rattle.std.proofs.Common.{refl, subst}
 use Rattle.valuation.specs.Checks.{Faultless}
-use Rattle.valuation.proofs.Reordered.{faultless_before}
+use Rattle.valuation.proofs.SameByIsin.{faultless_before}
 use Rattle.valuation.proofs.check.check_lines.Goals as goal
 
 pub returns-then-are_faultless : goal.returns-then-are_faultless

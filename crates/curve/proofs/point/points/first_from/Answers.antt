@@ -1,5 +1,5 @@
 use Rattle.std.proofs.Common.{arith}
-use Rattle.curve.proofs.Passed.{parts_at}
+use Rattle.curve.proofs.PassedPoints.{parts_at}
 use Rattle.curve.proofs.point.points.first_from.Goals as goal
 
 pub returns-else-points-at-2-clause-parts : goal.returns-else-points-at-2-clause-parts

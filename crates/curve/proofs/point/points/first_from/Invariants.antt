@@ -1,5 +1,5 @@
 use Rattle.std.proofs.Common.{◌≤◌, ◌-◌, length}
-use Rattle.curve.proofs.Passed.{Below}
+use Rattle.curve.proofs.PassedPoints.{Below}
 use Rattle.curve.proofs.point.points.first_from.Given as goal
 
 abbrev pub invariant-loop-at : goal.invariant-loop-at

@@ -3,8 +3,8 @@ use Rattle.std.proofs.lemmas.Bool.{lt-ltb, le-ltb}
 use Rattle.register.specs.Keys.{below_rank, from_rank}
 use Rattle.curve.specs.declared.point.Point.{Point}
 use Rattle.curve.specs.Points.{reach_of, sloping_rate}
-use Rattle.curve.proofs.Found.{term_of, last_of, last_is, beyond, reached}
-use Rattle.curve.proofs.Sloped.{not_before, last_below, at_point, before_first, between_points}
+use Rattle.curve.proofs.TermPlaces.{term_of, last_of, last_is, beyond, reached}
+use Rattle.curve.proofs.SlopeRates.{not_before, last_below, at_point, before_first, between_points}
 use Rattle.curve.proofs.sloping.SlopingCurveCurve.rate_for.Goals as goal
 use Rattle.curve.proofs.sloping.SlopingCurveCurve.rate_for.Goals.{After-last, in_default-via-in-Some+else-term-next, in_default-via-in_default}
 

@@ -3,7 +3,7 @@ use Rattle.std.proofs.lemmas.Bool.{lt-ltb, le-ltb}
 use Rattle.register.specs.Keys.{from_rank}
 use Rattle.curve.specs.declared.point.Point.{Point}
 use Rattle.curve.specs.Points.{reach_of}
-use Rattle.curve.proofs.Found.{term_of, beyond, reached, step_is}
+use Rattle.curve.proofs.TermPlaces.{term_of, beyond, reached, step_is}
 use Rattle.curve.proofs.step.StepCurveCurve.rate_for.Goals as goal
 
 pub returns-in_err-point-clause-answer : goal.returns-in_err-point-clause-answer

@@ -1,20 +1,8 @@
-use Rattle.std.proofs.Common.{Err, sym, refl, ap, ◌∙◌}
-use Rattle.std.proofs.lemmas.Result.{err_from_is_err_and}
-use Rattle.std.proofs.lemmas.Bool.{cond-true, cond-false}
-use Rattle.quantities.proofs.Decided.{accepted, refused}
-use Rattle.market.specs.Records.{isin_rank}
-use Rattle.market.proofs.Added.{told_number, leaves_put}
+use Rattle.std.proofs.Common.{refl}
 use Rattle.market.proofs.market.Market.add_price.Goals as goal
 
-pub returns-in_err-price-clause-change : goal.returns-in_err-price-clause-change
-returns-in_err-price-clause-change c =
-    let p = err_from_is_err_and c.from_residual.result c.from_residual.ensures.1 in
-    let n = refused _ _ _ _ c.in_err-price.ensures in
-    rw p.1 record { answers = rw p.2 (ap Err n.1 ∙ sym (cond-false _ _ _ n.0)); leaves = refl }
+pub returns-clause-answer : goal.returns-clause-answer
+returns-clause-answer c = rw (← c.self.view_is) c.insert.ensures.change.answers
 
-pub returns-clause-change : goal.returns-clause-change
-returns-clause-change c =
-    let y = accepted _ _ _ _ c.in_ok-price.ensures in
-    let h = c.insert.ensures.change in
-    let e = ap (λ parts. isin_rank parts.0) y.1 in
-    rw (← c.self.view_is) record { answers = told_number _ _ _ _ _ _ _ e h ∙ sym (cond-true _ _ _ y.0); leaves = leaves_put _ _ _ _ _ _ _ _ y.1 h }
+pub returns-clause-after : goal.returns-clause-after
+returns-clause-after c = rw (← c.self.view_is, c.insert.ensures.change.leaves, c.insert.ensures.room) refl

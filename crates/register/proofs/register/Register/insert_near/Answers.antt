@@ -1,14 +1,14 @@
 use Rattle.std.proofs.Common.{◌≡◌, ◌<◌, length, take, ap, ◌∙◌, subst, arith}
 use Rattle.std.proofs.lemmas.List.{length-take-le}
 use Rattle.std.specs.List.{insert}
-use Rattle.register.specs.Keys.{by}
+use Rattle.register.specs.Keys.{key_rank}
 use Rattle.register.specs.Search.{Misses}
 use Rattle.register.proofs.Changes.{inserts}
 use Rattle.register.proofs.register.Register.insert_near.Goals as goal
 
 pub returns-clause-change : goal.returns-clause-change
 returns-clause-change g c =
-    let f = by g.R.Key.Key.rank g.R.Record.key_of in
+    let f = key_rank g.R.Key.Key.rank g.R.Record.key_of in
     let held = c.args.self.now in
     let used = c.self.inside.used in
     let places = c.self.inside.places.now in

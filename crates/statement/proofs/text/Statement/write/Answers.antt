@@ -1,6 +1,6 @@
 use Rattle.std.proofs.Common.{◌≡◌, ℕ, ◌+◌, List, [], ◌++◌, length, drop, ap, ◌∙◌, sym, arith, length-append}
 use Rattle.std.proofs.lemmas.List.{at_drop_all}
-use Rattle.statement.specs.Statements.{head_text, row_text, rows_text, total_text, end_text, put_at}
+use Rattle.statement.specs.Statements.{head_text, row_text, rows_text, total_text, end_text, memory_with_bytes}
 use Rattle.statement.proofs.Placed.{rest_puts, row_at, rows_from}
 use Rattle.statement.proofs.text.Statement.write.Goals as goal
 
@@ -15,7 +15,7 @@ loop-row-init c =
     let whole : head_text ++ left ≡ c.args.self.now = c.self.view_is in
     record {
       room = omega (arith, ap length whole, length-append head_text left, c.put-at.auto.memory);
-      text = rest_puts 0 _ head_text left c.args.memory.now _ _ (omega arith) c.put-at.ensures (ap (λ t. put_at 0 t c.args.memory.now) whole);
+      text = rest_puts 0 _ head_text left c.args.memory.now _ _ (omega arith) c.put-at.ensures (ap (λ t. memory_with_bytes 0 t c.args.memory.now) whole);
     }
 
 pub loop-row-preserved : goal.loop-row-preserved
@@ -29,7 +29,7 @@ loop-row-preserved c =
     let first : line ++ left ≡ rows_text (drop i rows) ++ tail = sym (rows_from rows i tail c.loop-row-test.true) in
     record {
       room = omega (arith, ap length first, length-append line left, c.loop-row.invariant.room, c.put_row-at.auto.memory);
-      text = rest_puts _ _ line left c.loop-row.memory _ _ (omega arith) c.put_row-at.ensures (ap (λ t. put_at c.loop-row.at t c.loop-row.memory) first ∙ c.loop-row.invariant.text);
+      text = rest_puts _ _ line left c.loop-row.memory _ _ (omega arith) c.put_row-at.ensures (ap (λ t. memory_with_bytes c.loop-row.at t c.loop-row.memory) first ∙ c.loop-row.invariant.text);
     }
 
 pub returns : goal.returns
@@ -42,4 +42,4 @@ returns c =
     let none_left : rows_text (drop c.loop-row.row-index rows) ≡ [] = at_drop_all rows_text rows c.loop-row.row-index c.loop-row-test.false in
     let left : total ++ last ≡ rows_text (drop c.loop-row.row-index rows) ++ (total ++ last) = rw none_left in
     c.put_end.ensures.placed
-    ∙ rest_puts _ _ total last memory _ _ (omega (arith, c.loop-row.invariant.room)) c.put_total-at.ensures (ap (λ t. put_at c.loop-row.at t memory) left ∙ c.loop-row.invariant.text)
+    ∙ rest_puts _ _ total last memory _ _ (omega (arith, c.loop-row.invariant.room)) c.put_total-at.ensures (ap (λ t. memory_with_bytes c.loop-row.at t memory) left ∙ c.loop-row.invariant.text)

@@ -1,5 +1,5 @@
 use Rattle.std.proofs.Common.{◌≡◌, ◌+◌, ◌≤◌, ◌++◌, length, drop}
-use Rattle.statement.specs.Statements.{rows_text, total_text, end_text, put_at}
+use Rattle.statement.specs.Statements.{rows_text, total_text, end_text, memory_with_bytes}
 use Rattle.statement.proofs.text.Statement.write.Given as goal
 
 -- the lines that are left put the whole text
@@ -8,5 +8,5 @@ invariant-loop-row l =
     let left = rows_text (drop l.row-index l.row-items) ++ (total_text l.margin.cents l.margin.rounded_amounts ++ end_text (length l.row-items)) in
     record {
       room : l.at + length left ≤ length l.memory;
-      text : put_at l.at left l.memory ≡ put_at 0 l.self l.fn.memory;
+      text : memory_with_bytes l.at left l.memory ≡ memory_with_bytes 0 l.self l.fn.memory;
     }

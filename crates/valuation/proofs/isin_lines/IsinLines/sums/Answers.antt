@@ -2,10 +2,10 @@ use Rattle.std.proofs.Common.{◌<◌, length, subst, arith}
 use Rattle.std.proofs.lemmas.List.{length-map}
 use Rattle.account.specs.ByIsin.{lines_in}
 use Rattle.account.specs.Lines.{same_isin}
-use Rattle.valuation.specs.Workable.{Ready}
+use Rattle.valuation.specs.Cash.{IsWorkable}
 use Rattle.valuation.proofs.IsinSums.{line_is, before_next, before_room, before_end}
-use Rattle.valuation.proofs.Picks.{has_at}
-use Rattle.valuation.proofs.Taken.{all_among, few_titles_among, ready_among}
+use Rattle.valuation.proofs.LineLoops.{has_at}
+use Rattle.valuation.proofs.LineFacts.{all_among, few_titles_among, workable_among}
 use Rattle.valuation.proofs.isin_lines.IsinLines.sums.Goals as goal
 
 pub cash_of-cash-requires : goal.cash_of-cash-requires
@@ -14,7 +14,7 @@ cash_of-cash-requires g c =
     let s = g.B.Basis.setting r.basis.now in
     let ls = lines_in r.lines.now in
     let h : c.loop-standing.standing-index < length ls = omega (arith, length-map r.lines.now (λ x. x.line)) in
-    subst (Ready s) (line_is r.lines.now c.loop-standing.standing-index) (ready_among s ls r.taken r.faultless _ (has_at ls c.loop-standing.standing-index h))
+    subst (IsWorkable s) (line_is r.lines.now c.loop-standing.standing-index) (workable_among s ls r.taken r.faultless _ (has_at ls c.loop-standing.standing-index h))
 
 pub add-requires-clause-room : goal.add-requires-clause-room
 add-requires-clause-room g c = λ scope.

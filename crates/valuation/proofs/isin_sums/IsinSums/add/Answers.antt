@@ -1,4 +1,4 @@
-use Rattle.account.specs.declared.row.Scenario.TheVariants.{AllTrades, WithoutToday, WithoutNext}
+use Rattle.account.specs.declared.row.Scenario.TheVariants.{AllTrades, WithoutToday, AfterNext}
 use Rattle.account.specs.declared.row.Scope.TheVariants.{Trades, FailedLines, HeldLines, CashOnlyLines}
 use Rattle.valuation.proofs.isin_sums.IsinSums.add.Goals as goal
 
@@ -9,7 +9,7 @@ pub add-requires-2-clause-room : goal.add-requires-2-clause-room
 add-requires-2-clause-room g c = c.requires.room (Trades WithoutToday)
 
 pub add-requires-3-clause-room : goal.add-requires-3-clause-room
-add-requires-3-clause-room g c = c.requires.room (Trades WithoutNext)
+add-requires-3-clause-room g c = c.requires.room (Trades AfterNext)
 
 pub add-requires-4-clause-room : goal.add-requires-4-clause-room
 add-requires-4-clause-room g c = c.requires.room FailedLines

@@ -1,15 +1,10 @@
-use Rattle.std.proofs.Common.{◌≡◌, sym, ap, ◌∙◌, arith, w16, to_z, of_z}
-use Rattle.std.proofs.lemmas.Int.{ints}
-use Rattle.std.proofs.lemmas.Bool.{false≢true}
-use Rattle.quantities.proofs.Decided.{accepted}
-use Rattle.curve.specs.Points.{rate_fits}
+use Rattle.std.proofs.Common.{◌≡◌, Ok, Err, Result, OnOk, refl}
+use Rattle.quantities.specs.declared.refusal.Refusal.{Refusal}
 use Rattle.curve.proofs.point.points.Points.add.Goals as goal
 
-pub returns-clause-change : goal.returns-clause-change
-returns-clause-change c =
-    let a = accepted _ _ _ _ c.in_ok-rate.ensures in
-    let v : to_z w16 (of_z w16 c.args.rate) ≡ c.args.rate = omega (arith, ints) in
-    rw (← c.self.view_is) record {
-      out_of_range = λ e. absurd (false≢true (sym e ∙ (ap rate_fits (sym v) ∙ a.0)));
-      in_range = λ e. (c.new.result, ((c.new.ensures.at, ap (λ r. r.basis_points) c.new.ensures.has ∙ (a.1 ∙ v)), c.insert.ensures.change));
-    }
+where_ok : (P : Type 0) (a : Result (Unit {0}) Refusal) → (a ≡ Ok tt → P) → OnOk a P
+where_ok P (Ok u) h = h refl
+where_ok P (Err e) h = tt
+
+pub returns-clause-found : goal.returns-clause-found
+returns-clause-found c = rw (← c.self.view_is) (where_ok _ _ c.insert.ensures.change.finds)

@@ -1,0 +1,5 @@
+use Rattle.book.proofs.Promise.{joint_works}
+use Rattle.book.proofs.journal.work_three_books.Goals as goal
+
+pub returns-clause-joint : goal.returns-clause-joint
+returns-clause-joint g c = joint_works (g.met.N.NettingRule.nets c.args.setup.now.rule.now) c.work_through.ensures c.work_through-2.ensures c.work_through-3.ensures

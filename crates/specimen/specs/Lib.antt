@@ -1,4 +1,0 @@
-pub mod Trades
-pub mod Account
-pub mod Worked
-pub mod Letters

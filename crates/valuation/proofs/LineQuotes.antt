@@ -1,0 +1,41 @@
+-- What lines without a fault have: a quote.
+use Rattle.std.proofs.Common.{◌≡◌, ℕ, ◌≤◌, Bool, true, false, cond, not, List, [], ◌∷◌, length, refl, subst, ⊎_elim, arith}
+use Rattle.std.proofs.lemmas.Bool.{and_parts, cases_Bool, cond-false}
+use Rattle.quantities.specs.declared.isin.Isin.{Isin}
+use Rattle.account.specs.declared.line.Line.{Line}
+use Rattle.account.specs.Lines.{block_name, is_same_block, same_isin, is_in_block, keep}
+use Rattle.account.specs.declared.block.BlockName.{BlockName}
+use Rattle.account.specs.declared.block.BlockName.TheVariants.{Trade as trade, Failed as failed, Held as held, CashOnly as cash_only}
+use Rattle.account.specs.Settings.{Setting, has_price, has_percentage}
+use Rattle.account.specs.Answers.{fault}
+use Rattle.account.proofs.Terms.{same_isin_decides}
+use Rattle.valuation.specs.Checks.{Faultless}
+
+other_kind : (a k : BlockName) → is_same_block a k ≡ true → is_same_block k cash_only ≡ false → is_same_block a cash_only ≡ false
+other_kind trade k h n = refl
+other_kind failed k h n = refl
+other_kind held k h n = refl
+other_kind cash_only trade h n = cc
+other_kind cash_only failed h n = cc
+other_kind cash_only held h n = cc
+other_kind cash_only cash_only h n = n
+
+-- a line with no fault has one, unless it is for cash only
+line_quoted : (s : Setting) (l : Line) → is_same_block (block_name l.block) cash_only ≡ false → fault s l ≡ 0 → (has_price s l.isin ≡ true) × (has_percentage s l.isin ≡ true)
+line_quoted s l n e = go (is_same_block (block_name l.block) cash_only) (has_price s l.isin) (has_percentage s l.isin) _ n e
+  where
+    go : (t p q : Bool) (m : ℕ) → t ≡ false → cond t 0 (cond (not p) 10 (cond (not q) 11 m)) ≡ 0 → (p ≡ true) × (q ≡ true)
+    go true p q m n e = (cc, cc)
+    go false true true m n e = (refl, refl)
+    go false true false m n e = absurd (omega arith)
+    go false false q m n e = absurd (omega arith)
+
+-- and so has an ISIN with such a line
+pub quoted : (s : Setting) (i : Isin) (k : BlockName) (ls : List Line) → is_same_block k cash_only ≡ false → Faultless s ls → 1 ≤ length (keep (is_in_block i k) ls) → (has_price s i ≡ true) × (has_percentage s i ≡ true)
+quoted s i k [] n f h = absurd (omega arith)
+quoted s i k (l ∷ ls) n f h =
+    ⊎_elim
+    (λ e. let p = and_parts (same_isin l.isin i) (is_same_block (block_name l.block) k) e in
+    subst (λ j. (has_price s j ≡ true) × (has_percentage s j ≡ true)) ((same_isin_decides l.isin i).0 p.0) (line_quoted s l (other_kind (block_name l.block) k p.1 n) f.0))
+    (λ e. quoted s i k ls n f.1 (subst (λ ms. 1 ≤ length ms) (cond-false (is_in_block i k l) (l ∷ keep (is_in_block i k) ls) (keep (is_in_block i k) ls) e) h))
+    (cases_Bool (is_in_block i k l))
