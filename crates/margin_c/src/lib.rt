@@ -10,9 +10,9 @@ use run::run::run;
 
 pub mod refusal;
 
-/// Reads the five sheets of a run, and writes the statement of their account at the front of the buffer.
-/// It answers the length of the statement. Where the run is refused, it answers minus the number of the
-/// refusal, and the buffer keeps all that it held.
+/// Reads the five sheets of a run, and writes the statement of their account at the front of the
+/// buffer. It answers the length of the statement. Where the run is refused, it answers minus the
+/// number of the refusal, and the buffer keeps all that it held.
 #[unsafe(no_mangle)]
 pub extern "C" fn margin_run(sheets: &[u8], statement: &mut [u8]) -> i64
     ensures answer { result ≡ answer_of (run sheets.now (length statement.old)) }

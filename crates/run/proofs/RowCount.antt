@@ -11,8 +11,7 @@ use Rattle.account.proofs.Sums.{sum_le}
 use Rattle.account.proofs.Isins.{once_each}
 use Rattle.account.specs.Settings.{Setting}
 use Rattle.account.specs.Rows.{if_any, block_row, block_rows, isin_rows, rows_of_isins, statement_rows}
-use Rattle.valuation.specs.Spaces.{isin_line_count}
-use Rattle.valuation.proofs.Counted.{of_blocks}
+use Rattle.valuation.proofs.Counted.{isin_line_count, of_blocks}
 
 module _ {X : Type 0} (p : X → Bool) where
   length_kept : (xs : List X) → length (keep p xs) ≡ sum_of (λ x. cond (p x) 1 0) xs

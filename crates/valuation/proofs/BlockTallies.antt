@@ -15,9 +15,9 @@ use Rattle.account.specs.Rows.{block_row, if_any, block_rows}
 use Rattle.valuation.specs.declared.tally.Tally.{Tally}
 use Rattle.valuation.specs.RowCharges.{RowWithin}
 use Rattle.valuation.specs.Tallies.{AddsRows}
-use Rattle.valuation.specs.Spaces.{isin_line_count, RowsWithin, HasSpaceFor}
+use Rattle.valuation.specs.Spaces.{RowsWithin, HasSpaceFor}
 use Rattle.valuation.proofs.Worst.{within_more}
-use Rattle.valuation.proofs.Counted.{of_blocks, all_counted}
+use Rattle.valuation.proofs.Counted.{isin_line_count, of_blocks, all_counted}
 use Rattle.valuation.proofs.TallySpace.{within_none, within_one, space_after}
 
 -- how many lines an ISIN and block have

@@ -9,7 +9,10 @@ use Rattle.account.specs.ByIsin.{lines_in}
 use Rattle.account.specs.Lines.{block_name, is_same_block, same_isin, is_in_block, keep}
 use Rattle.account.specs.declared.block.BlockName.{BlockName}
 use Rattle.account.specs.declared.block.BlockName.TheVariants.{Trade as trade, Failed as failed, Held as held, CashOnly as cash_only}
-use Rattle.valuation.specs.Spaces.{isin_line_count}
+
+-- how many lines are of an ISIN
+abbrev pub isin_line_count : Isin → List Line → ℕ
+isin_line_count i ls = length (keep (λ l. same_isin l.isin i) ls)
 
 length_first : {X : Type 0} (p : X → Bool) (x : X) (xs : List X) → length (keep p (x ∷ xs)) ≡ cond (p x) 1 0 + length (keep p xs)
 length_first p x xs = go (p x)

@@ -29,9 +29,6 @@ line_at ls k = get_or ls k no_line
 pub record Summed (f : Line → ℕ) (p : Line → Bool) (ls : List Line) (k n : ℕ) : Type 0 where
   pub sum : n + sum_of f (keep p (drop k ls)) ≡ sum_of f (keep p ls)
 
-pub summed_none : (f : Line → ℕ) (p : Line → Bool) (ls : List Line) → Summed f p ls 0 0
-summed_none f p ls = record { sum = omega arith }
-
 pub summed_more : {f : Line → ℕ} {p : Line → Bool} {ls : List Line} {k n m : ℕ} (t : Bool) → k < length ls → t ≡ p (line_at ls k) → m ≡ n + cond t (f (line_at ls k)) 0 → Summed f p ls k n → Summed f p ls (k + 1) m
 summed_more {f} {p} {ls} {k} t h e d s =
     record {
@@ -52,9 +49,6 @@ count_first b p l ls = go (p l)
     go : (t : Bool) → b * length (cond t (l ∷ keep p ls) (keep p ls)) ≡ cond t b 0 + b * length (keep p ls)
     go true = omega (arith, mul-add b (length (keep p ls)) 1)
     go false = omega arith
-
-pub bounded_none : (b : ℕ) (p : Line → Bool) (ls : List Line) → Bounded b p ls 0 0
-bounded_none b p ls = record { high = omega arith }
 
 pub bounded_more : {b : ℕ} {p : Line → Bool} {ls : List Line} {k n m : ℕ} (t : Bool) → k < length ls → t ≡ p (line_at ls k) → m ≤ n + cond t b 0 → Bounded b p ls k n → Bounded b p ls (k + 1) m
 bounded_more {b} {p} {ls} {k} t h e d s =

@@ -1,17 +1,11 @@
 -- How large rows, and a tally of them, come to be: at most 3,000,000,000,000 cents in each block
 -- for each line.
 use Rattle.std.specs.Prelude.{ℕ, ◌+◌, ◌*◌, ◌≤◌, List, length, ℤ, pos, neg_ℤ, ◌≤ℤ◌}
-use Rattle.quantities.specs.declared.isin.Isin.{Isin}
-use Rattle.account.specs.declared.line.Line.{Line}
 use Rattle.account.specs.declared.row.Row.{Row}
-use Rattle.account.specs.Lines.{same_isin, keep, sum_of}
+use Rattle.account.specs.Lines.{sum_of}
 use Rattle.account.specs.declared.block.BlockName.{BlockName}
 use Rattle.valuation.specs.declared.tally.Tally.{Tally}
 use Rattle.valuation.specs.Tallies.{block_charges, rounded_count}
-
--- how many lines are of an ISIN
-abbrev pub isin_line_count : Isin → List Line → ℕ
-isin_line_count i ls = length (keep (λ l. same_isin l.isin i) ls)
 
 -- the charges of n lines, of either sign
 pub record ChargesWithin (n : ℕ) (z : ℤ) : Type 0 where

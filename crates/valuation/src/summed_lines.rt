@@ -1,5 +1,5 @@
 //! Lines of one ISIN, summed up.
-ghost use Rattle.std.specs.Prelude.{◌≡◌, ◌≤◌, false, length, IfSome, Ok};
+ghost use Rattle.std.specs.Prelude.{◌≡◌, ◌≤◌, length, IfSome, IsFalse, Ok};
 ghost use Rattle.std.proofs.Props.{props};
 ghost use Rattle.std.specs.Coded.{Π_prop};
 ghost use Rattle.quantities.specs.RangeChecks.{numbers_of};
@@ -84,7 +84,7 @@ impl<'b, 'a, B: Basis> SummedLines<'b, 'a, B> {
 
     // The quote by which a row of titles is worked, where its block has lines.
     fn scope_quote(&self, scope: Scope) -> Quote
-        requires titled { is_same_block (block_of scope) cash_only ≡ false }
+        requires titled { IsFalse (is_same_block (block_of scope) cash_only) }
         requires some { 1 ≤ block_count self.now.lines.now (block_of scope) }
         ensures { Ok (quote_parts result) ≡ isin_quote self.now.lines.now }
     {
@@ -94,7 +94,7 @@ impl<'b, 'a, B: Basis> SummedLines<'b, 'a, B> {
     // A row, where its block has lines.
     // That its block has lines is asked of the caller: it holds of one block at a time.
     fn scope_row(&self, scope: Scope) -> Row
-        requires titled { is_same_block (block_of scope) cash_only ≡ false }
+        requires titled { IsFalse (is_same_block (block_of scope) cash_only) }
         requires some { 1 ≤ block_count self.now.lines.now (block_of scope) }
         ensures is { result ≡ scope_row self.now.lines.now scope }
         ensures within { RowWithin (block_count self.now.lines.now (block_of scope)) result }
