@@ -11,8 +11,8 @@ use Rattle.netting.specs.Rules.{Netting, both_sides}
 use Rattle.account.specs.declared.line.Line.{Line}
 use Rattle.account.specs.declared.row.Row.{Row}
 use Rattle.account.specs.Lines.{is_same_block, is_in_block, keep, sum_ℤ, isins}
-use Rattle.account.specs.declared.block.BlockName.{BlockName}
-use Rattle.account.specs.declared.block.BlockName.TheVariants.{Trade as trade, Failed as failed, Held as held, CashOnly as cash_only}
+use Rattle.account.specs.declared.block_name.BlockName.{BlockName}
+use Rattle.account.specs.declared.block_name.BlockName.TheVariants.{Trade as trade, Failed as failed, Held as held, CashOnly as cash_only}
 use Rattle.account.specs.Settings.{Setting, unit_price, percentage_of}
 use Rattle.account.specs.Charges.{initial_margin_of, variation_margin_of, is_not_today, is_after_next}
 use Rattle.account.specs.Rows.{block_of, charge, worse, scenario_1, scenario_2, scenario_3, worst, block_row, if_any, block_rows, isin_rows, rows_of_isins, statement_rows, WorstOf, WorstLaw, NoLinesLaw}

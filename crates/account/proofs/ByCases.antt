@@ -6,11 +6,11 @@ use Rattle.market.specs.declared.price.Price.{Price}
 use Rattle.market.specs.declared.percentage.Percentage.{Percentage}
 use Rattle.market.specs.Records.{isin_rank, price_rank, percentage_rank}
 use Rattle.account.specs.declared.line.Line.{Line}
-use Rattle.account.specs.declared.line.Side.{Side}
-use Rattle.account.specs.declared.line.Side.TheVariants.{Bought, Sold}
+use Rattle.account.specs.declared.side.Side.{Side}
+use Rattle.account.specs.declared.side.Side.TheVariants.{Bought, Sold}
 use Rattle.account.specs.Lines.{is_same_block, same_side}
-use Rattle.account.specs.declared.block.BlockName.{BlockName}
-use Rattle.account.specs.declared.block.BlockName.TheVariants.{Trade as trade, Failed as failed, Held as held, CashOnly as cash_only}
+use Rattle.account.specs.declared.block_name.BlockName.{BlockName}
+use Rattle.account.specs.declared.block_name.BlockName.TheVariants.{Trade as trade, Failed as failed, Held as held, CashOnly as cash_only}
 use Rattle.account.specs.Settings.{Setting, millionths_or_zero, maturity_or_zero, unit_price, maturity, tranche_of, basis_points_or_zero, percentage_of}
 use Rattle.account.specs.Exact.{Fraction, opposite, payment, exact_cash, exact_payment}
 

@@ -9,11 +9,11 @@ use Rattle.quantities.specs.Amounts.{present_numerator, present_denominator, ini
 use Rattle.netting.specs.Rules.{Netting, both_sides}
 use Rattle.curve.specs.Curves.{Discounting}
 use Rattle.account.specs.declared.line.Line.{Line}
-use Rattle.account.specs.declared.line.Side.{Side}
-use Rattle.account.specs.declared.line.Side.TheVariants.{Bought, Sold}
+use Rattle.account.specs.declared.side.Side.{Side}
+use Rattle.account.specs.declared.side.Side.TheVariants.{Bought, Sold}
 use Rattle.account.specs.Lines.{block_name, is_same_block, if_bought, if_sold, is_trade, is_in_block, keep, sum_of, sum_ℤ, isins}
-use Rattle.account.specs.declared.block.BlockName.{BlockName}
-use Rattle.account.specs.declared.block.BlockName.TheVariants.{Trade as trade, Failed as failed, Held as held, CashOnly as cash_only}
+use Rattle.account.specs.declared.block_name.BlockName.{BlockName}
+use Rattle.account.specs.declared.block_name.BlockName.TheVariants.{Trade as trade, Failed as failed, Held as held, CashOnly as cash_only}
 use Rattle.account.specs.Settings.{Setting, unit_price, percentage_of, line_term, line_rate}
 use Rattle.account.specs.Charges.{titles_bought, titles_sold, cash_rounded_up, cash_rounded_down, cash_charged, cash_credited, initial_margin_of, market_value_of, variation_margin_of, is_not_today, is_after_next, cash_charge}
 use Rattle.account.specs.Rows.{statement_rows}

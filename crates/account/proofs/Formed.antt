@@ -8,8 +8,8 @@ use Rattle.quantities.specs.Ranges.{most_cash, most_titles, highest_reference}
 use Rattle.register.specs.Bytes.{Bytes}
 use Rattle.account.specs.declared.line.Line.{Line}
 use Rattle.account.specs.Lines.{block_name, TwelveBytes}
-use Rattle.account.specs.declared.block.BlockName.{BlockName}
-use Rattle.account.specs.declared.block.BlockName.TheVariants.{Trade as trade, Failed as failed, Held as held, CashOnly as cash_only}
+use Rattle.account.specs.declared.block_name.BlockName.{BlockName}
+use Rattle.account.specs.declared.block_name.BlockName.TheVariants.{Trade as trade, Failed as failed, Held as held, CashOnly as cash_only}
 use Rattle.account.specs.Answers.{has_titles, is_well_formed, is_well_dated}
 use Rattle.account.specs.Valid.{all_valid}
 

@@ -12,7 +12,7 @@ use Rattle.account.specs.declared.block.Block.TheVariants.{Trade, Failed, Held, 
 use Rattle.account.specs.declared.call.Call.{Call}
 use Rattle.account.specs.declared.call.Call.TheVariants.{Enter, Withdraw, AskMargin}
 use Rattle.account.specs.Lines.{block_name, date, is_same_block, is_trade}
-use Rattle.account.specs.declared.block.BlockName.TheVariants.{Trade as trade}
+use Rattle.account.specs.declared.block_name.BlockName.TheVariants.{Trade as trade}
 use Rattle.account.specs.Settings.{Setting, line_term}
 use Rattle.account.specs.Calls.{Answer, accepted, refused, given, Event, line_rank, lines_after, lines_standing_from, lines_standing}
 use Rattle.account.specs.Answers.{is_well_formed, is_well_dated, titles_with, enter_answer, withdraw_answer, due_answer, EachDue}

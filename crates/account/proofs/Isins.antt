@@ -6,8 +6,8 @@ use Rattle.register.specs.Keys.{inserted_by}
 use Rattle.market.specs.Records.{isin_rank}
 use Rattle.account.specs.declared.line.Line.{Line}
 use Rattle.account.specs.Lines.{same_isin, is_trade, is_in_block, keep, sum_of, sum_ℤ, any, has_isin, with_isin, isins}
-use Rattle.account.specs.declared.block.BlockName.{BlockName}
-use Rattle.account.specs.declared.block.BlockName.TheVariants.{Trade as trade}
+use Rattle.account.specs.declared.block_name.BlockName.{BlockName}
+use Rattle.account.specs.declared.block_name.BlockName.TheVariants.{Trade as trade}
 use Rattle.account.proofs.Sums.{one_if, sum_zero, sum_plus, sum_le, count, same_sum}
 use Rattle.account.proofs.Terms.{same_isin_decides}
 

@@ -10,8 +10,8 @@ use Rattle.quantities.specs.Amounts.{initial_margin, value_numerator, market_val
 use Rattle.netting.specs.Rules.{Netting, both_sides}
 use Rattle.account.specs.declared.line.Line.{Line}
 use Rattle.account.specs.Lines.{same_isin, if_bought, if_sold, is_in_block, keep, sum_ℤ, isins}
-use Rattle.account.specs.declared.block.BlockName.{BlockName}
-use Rattle.account.specs.declared.block.BlockName.TheVariants.{Trade as trade, Failed as failed, Held as held, CashOnly as cash_only}
+use Rattle.account.specs.declared.block_name.BlockName.{BlockName}
+use Rattle.account.specs.declared.block_name.BlockName.TheVariants.{Trade as trade, Failed as failed, Held as held, CashOnly as cash_only}
 use Rattle.account.specs.Settings.{Setting, unit_price, percentage_of}
 use Rattle.account.specs.Charges.{titles_bought, titles_sold, cash_rounded_up, cash_rounded_down, market_value_of, is_not_today, is_after_next}
 use Rattle.account.specs.Rows.{statement_rows}

@@ -7,7 +7,7 @@ use Rattle.std.specs.declared.cmp.Ordering.TheVariants.{Less, Equal, Greater}
 use Rattle.std.specs.declared.cmp.Ordering.{Ordering}
 use Rattle.register.specs.Bytes.{value}
 use Rattle.register.specs.Keys.{Compares}
-use Rattle.account.specs.declared.by_isin.IsinReference.{IsinReference}
+use Rattle.account.specs.declared.isin_reference.IsinReference.{IsinReference}
 use Rattle.account.specs.ByIsin.{reference_rank}
 
 pub keyed : (a b : IsinReference) (o : Ordering) → Compares (value 0) a.isin.bytes b.isin.bytes o → a.reference < 2 ^ 32 → b.reference < 2 ^ 32 →

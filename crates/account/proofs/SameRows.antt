@@ -7,8 +7,8 @@ use Rattle.register.specs.Keys.{Ascends, inserted_by}
 use Rattle.market.specs.Records.{isin_rank}
 use Rattle.account.specs.declared.line.Line.{Line}
 use Rattle.account.specs.Lines.{block_name, is_same_block, same_isin, is_trade, is_in_block, keep, sum_of, has_isin, with_isin, isins, TwelveBytes}
-use Rattle.account.specs.declared.block.BlockName.{BlockName}
-use Rattle.account.specs.declared.block.BlockName.TheVariants.{Trade as trade, Failed as failed, Held as held, CashOnly as cash_only}
+use Rattle.account.specs.declared.block_name.BlockName.{BlockName}
+use Rattle.account.specs.declared.block_name.BlockName.TheVariants.{Trade as trade, Failed as failed, Held as held, CashOnly as cash_only}
 use Rattle.account.specs.Settings.{Setting}
 use Rattle.account.specs.Rows.{if_any, block_row, block_rows, rows_of_isins, statement_rows}
 use Rattle.account.specs.Margin.{total, margin, two_if_any, rounded_amounts_at, rounded_amounts}

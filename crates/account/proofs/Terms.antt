@@ -4,14 +4,14 @@ use Rattle.std.proofs.lemmas.Int.{ints}
 use Rattle.std.proofs.lemmas.Slice.Eq.{bytes_eq-Decides}
 use Rattle.std.proofs.lemmas.Bool.{and_parts, and_from, eqb-true, eq-eqb}
 use Rattle.quantities.specs.declared.isin.Isin.{Isin}
-use Rattle.account.specs.declared.line.Side.{Side}
-use Rattle.account.specs.declared.line.Side.TheVariants.{Bought, Sold}
+use Rattle.account.specs.declared.side.Side.{Side}
+use Rattle.account.specs.declared.side.Side.TheVariants.{Bought, Sold}
 use Rattle.account.specs.declared.block.Block.{Block}
 use Rattle.account.specs.declared.block.Block.TheVariants.{Trade, Failed, Held, CashOnly}
 use Rattle.account.specs.declared.line.Line.{Line}
 use Rattle.account.specs.Lines.{block_name, date, is_same_block, same_side, same_isin, same_terms, keep, sum_of, sum_ℤ}
-use Rattle.account.specs.declared.block.BlockName.{BlockName}
-use Rattle.account.specs.declared.block.BlockName.TheVariants.{Trade as trade, Failed as failed, Held as held, CashOnly as cash_only}
+use Rattle.account.specs.declared.block_name.BlockName.{BlockName}
+use Rattle.account.specs.declared.block_name.BlockName.TheVariants.{Trade as trade, Failed as failed, Held as held, CashOnly as cash_only}
 use Rattle.account.specs.Joint.{IsJointBook}
 use Rattle.account.proofs.Sums.{joint_sum, sum_pos, sum_kept}
 

@@ -13,8 +13,8 @@ use Rattle.account.specs.declared.block.Block.TheVariants.{Trade, Failed, Held, 
 use Rattle.account.specs.declared.call.Call.{Call}
 use Rattle.account.specs.declared.call.Call.TheVariants.{Enter, Withdraw, AskMargin}
 use Rattle.account.specs.Lines.{block_name, is_same_block, is_trade, is_in_block, keep, sum_of}
-use Rattle.account.specs.declared.block.BlockName.{BlockName}
-use Rattle.account.specs.declared.block.BlockName.TheVariants.{Trade as trade, Failed as failed, Held as held, CashOnly as cash_only}
+use Rattle.account.specs.declared.block_name.BlockName.{BlockName}
+use Rattle.account.specs.declared.block_name.BlockName.TheVariants.{Trade as trade, Failed as failed, Held as held, CashOnly as cash_only}
 use Rattle.account.specs.Settings.{Setting, has_price, has_percentage, has_rate}
 use Rattle.account.specs.Margin.{margin, rounded_amounts}
 use Rattle.account.specs.Calls.{Answer, accepted, refused, given, Event, line_rank, lines_after}

@@ -5,7 +5,7 @@ use Rattle.register.specs.Keys.{Ascends, inserted_by}
 use Rattle.market.specs.Records.{isin_rank}
 use Rattle.account.specs.declared.line.Line.{Line}
 use Rattle.account.specs.declared.by_isin.ByIsin.{ByIsin}
-use Rattle.account.specs.declared.by_isin.IsinReference.{IsinReference}
+use Rattle.account.specs.declared.isin_reference.IsinReference.{IsinReference}
 use Rattle.account.specs.Calls.{line_rank}
 use Rattle.account.specs.Lines.{same_isin, keep}
 

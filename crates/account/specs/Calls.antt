@@ -6,10 +6,10 @@ use Rattle.register.specs.Keys.{inserted_by, without}
 use Rattle.account.specs.declared.line.Line.{Line}
 use Rattle.account.specs.declared.call.Call.{Call}
 use Rattle.account.specs.declared.call.Call.TheVariants.{Enter, Withdraw, AskMargin}
-use Rattle.account.specs.declared.call.Margin.{Margin}
-use Rattle.account.specs.declared.call.LineRefusal.{LineRefusal}
-use Rattle.account.specs.declared.call.Reply.{Reply}
-use Rattle.account.specs.declared.call.Reply.TheVariants.{Accepted, Given}
+use Rattle.account.specs.declared.margin.Margin.{Margin}
+use Rattle.account.specs.declared.line_refusal.LineRefusal.{LineRefusal}
+use Rattle.account.specs.declared.reply.Reply.{Reply}
+use Rattle.account.specs.declared.reply.Reply.TheVariants.{Accepted, Given}
 
 -- what a book answers
 pub data Answer : Type 0 where

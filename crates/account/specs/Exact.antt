@@ -4,11 +4,11 @@ use Rattle.quantities.specs.declared.isin.Isin.{Isin}
 use Rattle.quantities.specs.Amounts.{present_numerator, present_denominator, initial_numerator, value_numerator}
 use Rattle.netting.specs.Rules.{both_sides}
 use Rattle.account.specs.declared.line.Line.{Line}
-use Rattle.account.specs.declared.line.Side.{Side}
-use Rattle.account.specs.declared.line.Side.TheVariants.{Bought, Sold}
+use Rattle.account.specs.declared.side.Side.{Side}
+use Rattle.account.specs.declared.side.Side.TheVariants.{Bought, Sold}
 use Rattle.account.specs.Lines.{is_trade, is_in_block, keep, isins}
-use Rattle.account.specs.declared.block.BlockName.{BlockName}
-use Rattle.account.specs.declared.block.BlockName.TheVariants.{Trade as trade, Failed as failed, Held as held, CashOnly as cash_only}
+use Rattle.account.specs.declared.block_name.BlockName.{BlockName}
+use Rattle.account.specs.declared.block_name.BlockName.TheVariants.{Trade as trade, Failed as failed, Held as held, CashOnly as cash_only}
 use Rattle.account.specs.Settings.{Setting, unit_price, percentage_of, line_term, line_rate}
 use Rattle.account.specs.Charges.{titles_bought, titles_sold, is_not_today, is_after_next, cash_charge}
 

@@ -5,12 +5,12 @@ use Rattle.quantities.specs.declared.isin.Isin.{Isin}
 use Rattle.register.specs.Bytes.{Bytes}
 use Rattle.register.specs.Keys.{Ascends, inserted_by}
 use Rattle.market.specs.Records.{isin_rank}
-use Rattle.account.specs.declared.line.Side.{Side}
-use Rattle.account.specs.declared.line.Side.TheVariants.{Bought, Sold}
+use Rattle.account.specs.declared.side.Side.{Side}
+use Rattle.account.specs.declared.side.Side.TheVariants.{Bought, Sold}
 use Rattle.account.specs.declared.block.Block.{Block}
 use Rattle.account.specs.declared.block.Block.TheVariants.{Trade, Failed, Held, CashOnly}
-use Rattle.account.specs.declared.block.BlockName.{BlockName}
-use Rattle.account.specs.declared.block.BlockName.TheVariants.{Trade as trade, Failed as failed, Held as held, CashOnly as cash_only}
+use Rattle.account.specs.declared.block_name.BlockName.{BlockName}
+use Rattle.account.specs.declared.block_name.BlockName.TheVariants.{Trade as trade, Failed as failed, Held as held, CashOnly as cash_only}
 use Rattle.account.specs.declared.line.Line.{Line}
 
 -- the block of a line, without its date

@@ -3,14 +3,14 @@ use Rattle.std.specs.Prelude.{◌≡◌, ℕ, ◌⊎◌, List, [], ◌∷◌, �
 use Rattle.quantities.specs.declared.isin.Isin.{Isin}
 use Rattle.netting.specs.Rules.{Netting, both_sides}
 use Rattle.account.specs.declared.line.Line.{Line}
-use Rattle.account.specs.declared.row.Scenario.{Scenario}
-use Rattle.account.specs.declared.row.Scenario.TheVariants.{AllTrades, WithoutToday, AfterNext}
-use Rattle.account.specs.declared.row.Scope.{Scope}
-use Rattle.account.specs.declared.row.Scope.TheVariants.{Trades, FailedLines, HeldLines, CashOnlyLines}
+use Rattle.account.specs.declared.scenario.Scenario.{Scenario}
+use Rattle.account.specs.declared.scenario.Scenario.TheVariants.{AllTrades, WithoutToday, AfterNext}
+use Rattle.account.specs.declared.scope.Scope.{Scope}
+use Rattle.account.specs.declared.scope.Scope.TheVariants.{Trades, FailedLines, HeldLines, CashOnlyLines}
 use Rattle.account.specs.declared.row.Row.{Row}
 use Rattle.account.specs.Lines.{is_in_block, keep, isins}
-use Rattle.account.specs.declared.block.BlockName.{BlockName}
-use Rattle.account.specs.declared.block.BlockName.TheVariants.{Trade as trade, Failed as failed, Held as held, CashOnly as cash_only}
+use Rattle.account.specs.declared.block_name.BlockName.{BlockName}
+use Rattle.account.specs.declared.block_name.BlockName.TheVariants.{Trade as trade, Failed as failed, Held as held, CashOnly as cash_only}
 use Rattle.account.specs.Settings.{Setting}
 use Rattle.account.specs.Charges.{initial_margin_of, variation_margin_of, is_not_today, is_after_next, cash_charge}
 

@@ -1,7 +1,4 @@
 //! The blocks in which lines stand.
-ghost use Rattle.account.specs.Lines.{block_name, dated_block};
-ghost use Rattle.std.specs.Prelude.{◌≡◌};
-
 use quantities::date::Date;
 
 /// Where a line stands, with its date: for a trade the day on which it settles.
@@ -11,41 +8,4 @@ pub enum Block {
     Failed(Date),
     Held(Date),
     CashOnly(Date),
-}
-
-/// The name of a block, which says nothing of a date.
-#[derive(Clone, Copy, PartialEq, Eq, Debug)]
-pub enum BlockName {
-    Trade,
-    Failed,
-    Held,
-    CashOnly,
-}
-
-/// The block in which a line stands.
-impl From<Block> for BlockName {
-    ghost from_gives = { λ block name. name ≡ block_name block };
-
-    fn from(block: Block) -> BlockName {
-        match block {
-            Block::Trade(_) => BlockName::Trade,
-            Block::Failed(_) => BlockName::Failed,
-            Block::Held(_) => BlockName::Held,
-            Block::CashOnly(_) => BlockName::CashOnly,
-        }
-    }
-}
-
-impl BlockName {
-    /// The block of that name, with a date.
-    pub fn with_date(self, date: Date) -> Block
-        ensures { result ≡ dated_block self date }
-    {
-        match self {
-            BlockName::Trade => Block::Trade(date),
-            BlockName::Failed => Block::Failed(date),
-            BlockName::Held => Block::Held(date),
-            BlockName::CashOnly => Block::CashOnly(date),
-        }
-    }
 }

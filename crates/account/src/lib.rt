@@ -2,8 +2,16 @@
 #![tactic(auto)]
 
 pub mod block;
+pub mod block_name;
 pub mod by_isin;
 pub mod call;
+pub mod isin_reference;
 pub mod laws;
 pub mod line;
+pub mod line_refusal;
+pub mod margin;
+pub mod reply;
 pub mod row;
+pub mod scenario;
+pub mod scope;
+pub mod side;

@@ -2,16 +2,9 @@
 ghost use Rattle.std.specs.Prelude.{◌≡◌};
 
 use crate::block::Block;
+use crate::side::Side;
 use quantities::isin::Isin;
 use register::record::Record;
-
-/// Which way the titles of a line go; a cash-only line that is bought pays, one that is sold
-/// receives.
-#[derive(Clone, Copy, PartialEq, Eq, Debug)]
-pub enum Side {
-    Bought,
-    Sold,
-}
 
 /// A line as it is handed.
 #[derive(Clone, Copy, PartialEq, Eq, Debug)]

@@ -9,7 +9,7 @@ use Rattle.register.specs.Keys.{Ascends}
 use Rattle.account.specs.declared.line.Line.{Line}
 use Rattle.account.specs.declared.by_isin.ByIsin.{ByIsin}
 use Rattle.account.specs.Lines.{block_name, is_same_block, same_isin, is_in_block, keep, sum_of}
-use Rattle.account.specs.declared.block.BlockName.{BlockName}
+use Rattle.account.specs.declared.block_name.BlockName.{BlockName}
 use Rattle.account.specs.Answers.{titles_of}
 use Rattle.account.specs.Calls.{line_rank}
 use Rattle.account.specs.ByIsin.{lines_by_isin, lines_in}

@@ -7,7 +7,7 @@ use Rattle.register.specs.Changes.{insert_after}
 use Rattle.register.specs.Keys.{has_rank, inserted_by, without}
 use Rattle.account.specs.declared.line.Line.{Line}
 use Rattle.account.specs.Lines.{block_name, is_same_block, same_isin, is_in_block}
-use Rattle.account.specs.declared.block.BlockName.{BlockName}
+use Rattle.account.specs.declared.block_name.BlockName.{BlockName}
 use Rattle.account.specs.Calls.{line_rank}
 use Rattle.account.specs.Answers.{is_well_formed, is_well_dated, titles_of, titles_with}
 use Rattle.account.proofs.Sums.{sum_first}

@@ -9,7 +9,7 @@ use Rattle.register.specs.Keys.{has_rank}
 use Rattle.account.specs.declared.by_isin.ByIsin.{ByIsin}
 use Rattle.account.specs.declared.line.Line.{Line}
 use Rattle.account.specs.Lines.{block_name, is_same_block, same_isin}
-use Rattle.account.specs.declared.block.BlockName.{BlockName}
+use Rattle.account.specs.declared.block_name.BlockName.{BlockName}
 use Rattle.account.specs.Calls.{refused, line_rank}
 use Rattle.account.specs.Answers.{is_well_formed, is_well_dated, titles_with, enter_answer}
 use Rattle.book.specs.declared.book.Places.{Places}

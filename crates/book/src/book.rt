@@ -3,7 +3,7 @@ ghost use Rattle.std.specs.Prelude.{◌≡◌, ◌≤◌, min, [], length, IsTru
 ghost use Rattle.account.specs.Answers.{titles_of, margin_answer};
 ghost use Rattle.account.specs.ByIsin.{lines_by_isin, lines_in, isin_line_rank};
 ghost use Rattle.account.specs.Calls.{line_rank, answer_of_margin};
-ghost use Rattle.account.specs.declared.block.BlockName.{BlockName};
+ghost use Rattle.account.specs.declared.block_name.BlockName.{BlockName};
 ghost use Rattle.account.specs.Valid.{all_valid};
 ghost use Rattle.quantities.specs.Ranges.{most_titles};
 ghost use Rattle.quantities.specs.declared.isin.Isin.{Isin};
@@ -13,8 +13,11 @@ ghost use Rattle.valuation.specs.Statements.{States};
 
 use crate::check::{check_date, check_form, check_titles, is_first_of, is_last_of};
 use account::by_isin::ByIsin;
-use account::call::{Answer, Call, LineRefusal, Margin, Reply};
+use account::call::{Answer, Call};
 use account::line::Line;
+use account::line_refusal::LineRefusal;
+use account::margin::Margin;
+use account::reply::Reply;
 use account::row::Row;
 use curve::Curve;
 use market::market::Market;

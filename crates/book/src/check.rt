@@ -8,7 +8,8 @@ ghost use Rattle.account.specs.Answers.{titles_of, titles_with};
 ghost use Rattle.quantities.specs.Isins.{is_isin};
 ghost use Rattle.book.specs.LineChecks.{RefusesUnless, StandTogether, titles_around};
 
-use account::block::{Block, BlockName};
+use account::block::Block;
+use account::block_name::BlockName;
 use account::by_isin::ByIsin;
 use account::line::Line;
 use quantities::date::{Date, past_date, settlement_date};

@@ -6,8 +6,10 @@ ghost use Rattle.valuation.specs.Setups.{setting_of};
 
 use crate::book::Book;
 use account::by_isin::ByIsin;
-use account::call::{Answer, Call, LineRefusal, Margin};
+use account::call::{Answer, Call};
 use account::line::Line;
+use account::line_refusal::LineRefusal;
+use account::margin::Margin;
 use curve::Curve;
 use netting::NettingRule;
 use quantities::refusal::Refusal;

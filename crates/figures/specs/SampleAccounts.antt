@@ -8,13 +8,13 @@ use Rattle.quantities.specs.declared.isin.Isin.{Isin}
 use Rattle.quantities.specs.declared.range.Rate.{Rate}
 use Rattle.quantities.specs.declared.tranche.Tranche.TheVariants.{UpToOneYear, UpToTenYears}
 use Rattle.account.specs.declared.line.Line.{Line}
-use Rattle.account.specs.declared.line.Side.{Side}
-use Rattle.account.specs.declared.line.Side.TheVariants.{Bought, Sold}
+use Rattle.account.specs.declared.side.Side.{Side}
+use Rattle.account.specs.declared.side.Side.TheVariants.{Bought, Sold}
 use Rattle.account.specs.declared.block.Block.{Block}
 use Rattle.account.specs.declared.block.Block.TheVariants.{Trade, Failed, Held, CashOnly}
-use Rattle.account.specs.declared.row.Scenario.{Scenario}
-use Rattle.account.specs.declared.row.Scope.{Scope}
-use Rattle.account.specs.declared.row.Scope.TheVariants.{Trades, FailedLines, CashOnlyLines}
+use Rattle.account.specs.declared.scenario.Scenario.{Scenario}
+use Rattle.account.specs.declared.scope.Scope.{Scope}
+use Rattle.account.specs.declared.scope.Scope.TheVariants.{Trades, FailedLines, CashOnlyLines}
 use Rattle.account.specs.declared.row.Row.{Row}
 use Rattle.account.specs.declared.call.Call.TheVariants.{Enter, Withdraw, AskMargin}
 use Rattle.account.specs.Settings.{Setting}

@@ -8,8 +8,8 @@ use Rattle.quantities.specs.Amounts.{present_up, present_down, initial_margin, m
 use Rattle.quantities.specs.Dates.{term, settles_in_time, residual_life}
 use Rattle.quantities.specs.Isins.{is_isin}
 use Rattle.quantities.specs.Tranches.{tranche, tranche_number}
-use Rattle.account.specs.declared.line.Side.{Side}
-use Rattle.account.specs.declared.line.Side.TheVariants.{Bought, Sold}
+use Rattle.account.specs.declared.side.Side.{Side}
+use Rattle.account.specs.declared.side.Side.TheVariants.{Bought, Sold}
 use Rattle.account.specs.Lines.{if_bought, if_sold}
 use Rattle.figures.specs.declared.trade.Trade.{Trade}
 use Rattle.figures.specs.declared.trade.parts.Parts.{Parts}

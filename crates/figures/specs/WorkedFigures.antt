@@ -11,10 +11,10 @@ use Rattle.curve.specs.declared.point.Point.{Point}
 use Rattle.curve.specs.Points.{reach_of, step_rate, sloping_rate}
 use Rattle.netting.specs.Rules.{net, gross, both_sides}
 use Rattle.account.specs.declared.line.Line.{Line}
-use Rattle.account.specs.declared.line.Side.TheVariants.{Bought, Sold}
+use Rattle.account.specs.declared.side.Side.TheVariants.{Bought, Sold}
 use Rattle.account.specs.declared.block.Block.TheVariants.{Held, CashOnly}
-use Rattle.account.specs.declared.row.Scenario.TheVariants.{AllTrades, WithoutToday, AfterNext}
-use Rattle.account.specs.declared.row.Scope.TheVariants.{Trades, HeldLines}
+use Rattle.account.specs.declared.scenario.Scenario.TheVariants.{AllTrades, WithoutToday, AfterNext}
+use Rattle.account.specs.declared.scope.Scope.TheVariants.{Trades, HeldLines}
 use Rattle.account.specs.Settings.{Setting}
 use Rattle.account.specs.Rows.{statement_rows}
 use Rattle.account.specs.Exact.{fraction_of, exact_margin}

@@ -2,8 +2,12 @@
 use crate::report::show_refusal;
 use account::block::Block;
 use account::by_isin::ByIsin;
-use account::call::{Answer, Call, LineRefusal, Margin, Reply};
-use account::line::{Line, Side};
+use account::call::{Answer, Call};
+use account::line::Line;
+use account::line_refusal::LineRefusal;
+use account::margin::Margin;
+use account::reply::Reply;
+use account::side::Side;
 use book::journal::{Journal, ThreeMargins, work_three_books};
 use curve::point::Point;
 use curve::point::points::Points;

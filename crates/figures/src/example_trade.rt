@@ -2,7 +2,7 @@
 use crate::report::{show, show_refusal};
 use crate::trade::Trade;
 use crate::trade::charge_steps::ChargeSteps;
-use account::line::Side;
+use account::side::Side;
 use netting::Net;
 use quantities::isin::Isin;
 use std::io;

@@ -1,13 +1,14 @@
 //! One trade by itself, and the steps from it to its charge.
 use crate::trade::charge_steps::ChargeSteps;
 use crate::trade::parts::Parts;
-use account::line::Side;
+use account::side::Side;
 use netting::{NettingRule, Position};
 use quantities::amount::{initial_margin, market_value, present_value_down, present_value_up};
 use quantities::date::{Date, residual_life};
 use quantities::isin::Isin;
-use quantities::range::{Cash, MarginPercentage, Rate, Term, Titles, UnitPrice};
+use quantities::range::{Cash, MarginPercentage, Rate, Titles, UnitPrice};
 use quantities::refusal::Refusal;
+use quantities::term::Term;
 use quantities::tranche::Tranche;
 
 pub mod charge_steps;

@@ -11,8 +11,9 @@ use netting::{BothSides, Gross, Net, NettingRule, Position};
 use quantities::amount::{initial_margin, market_value, present_value_down, present_value_up};
 use quantities::date::Date;
 use quantities::isin::Isin;
-use quantities::range::{Cash, MarginPercentage, Rate, Term, Titles, UnitPrice};
+use quantities::range::{Cash, MarginPercentage, Rate, Titles, UnitPrice};
 use quantities::refusal::Refusal;
+use quantities::term::Term;
 use quantities::tranche::Tranche;
 use std::io;
 

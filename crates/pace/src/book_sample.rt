@@ -1,7 +1,8 @@
 //! The lines of a sample book: trades, three to an ISIN.
 use crate::sample::{TODAY, sample_isin, sample_reference};
 use account::block::Block;
-use account::line::{Line, Side};
+use account::line::Line;
+use account::side::Side;
 
 pub(crate) const LINES_PER_ISIN: u32 = 3;
 

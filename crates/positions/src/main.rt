@@ -2,7 +2,8 @@
 #![tactic(auto)]
 
 use account::block::Block;
-use account::line::{Line, Side};
+use account::line::Line;
+use account::side::Side;
 use rows::position::PositionRows;
 use sheet::input::Input;
 use sheet::reading::Reading;

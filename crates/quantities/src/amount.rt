@@ -3,7 +3,8 @@ ghost use Rattle.std.specs.Prelude.{◌≡◌, ◌<◌, ◌≤◌, pos, negsuc, 
 ghost use Rattle.quantities.specs.Rounding.{round_up, round_down, JustAbove, JustBelow, JustBelowSigned};
 ghost use Rattle.quantities.specs.Amounts.{present_numerator, present_denominator, present_up, present_down, initial_numerator, initial_margin, value_numerator, market_value};
 
-use crate::range::{Cash, MarginPercentage, Rate, Term, Titles, UnitPrice};
+use crate::range::{Cash, MarginPercentage, Rate, Titles, UnitPrice};
+use crate::term::Term;
 
 /// Cents that are never negative.
 pub type Cents = u64;

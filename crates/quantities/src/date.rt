@@ -1,9 +1,8 @@
 //! Dates: day numbers, of which day 0 is 1 January 2000.
 ghost use Rattle.std.specs.Prelude.{◌≡◌};
 ghost use Rattle.quantities.specs.RangeChecks.{numbers_of};
-ghost use Rattle.quantities.specs.Dates.{term, settlement_date, past_date, term_answer, residual_life};
+ghost use Rattle.quantities.specs.Dates.{term, settlement_date, past_date, residual_life};
 
-use crate::range::Term;
 use crate::refusal::Refusal;
 
 /// A day number, 0 to 65,535.
@@ -39,18 +38,6 @@ pub fn term_days(today: Date, settlement: Date) -> u16
     ensures { result ≡ term today settlement }
 {
     settlement.saturating_sub(today).saturating_sub(1)
-}
-
-impl Term {
-    /// The term of a trade that settles on a date.
-    pub fn of_trade(today: Date, settlement: Date) -> Result<Term, Refusal>
-        ensures { numbers_of (λ t. t.days) result ≡ term_answer today settlement }
-    {
-        let date = settlement_date(today, settlement)?;
-        Ok(Term {
-            days: term_days(today, date),
-        })
-    }
 }
 
 /// The days that a bond has left, or 0.

@@ -6,6 +6,7 @@ pub mod date;
 pub mod isin;
 pub mod range;
 pub mod refusal;
+pub mod term;
 #[cfg(test)]
 mod tests;
 pub mod tranche;

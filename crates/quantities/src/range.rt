@@ -1,7 +1,7 @@
 //! Quantities that stay within their ranges.
 ghost use Rattle.std.specs.Prelude.{◌≡◌, ◌≤◌, ◌≤ℤ◌};
 ghost use Rattle.quantities.specs.RangeChecks.{numbers_of, range_answer, signed_range_answer};
-ghost use Rattle.quantities.specs.Ranges.{most_cash, most_titles, lowest_price, highest_price, lowest_rate, highest_rate, highest_percentage, longest_term};
+ghost use Rattle.quantities.specs.Ranges.{most_cash, most_titles, lowest_price, highest_price, lowest_rate, highest_rate, highest_percentage};
 
 use crate::refusal::Refusal;
 
@@ -138,11 +138,4 @@ impl TryFrom<u16> for MarginPercentage {
             _ => Err(Refusal::Value),
         }
     }
-}
-
-/// The term of a trade, 0 to 364 days.
-#[derive(Clone, Copy, Debug, PartialEq, Eq, Hash, PartialOrd, Ord)]
-pub struct Term {
-    pub days: u16,
-    ghost within: { days ≤ longest_term },
 }

@@ -8,6 +8,7 @@ use crate::date::*;
 use crate::isin::*;
 use crate::range::*;
 use crate::refusal::*;
+use crate::term::*;
 use crate::tranche::*;
 use std::cmp::Ordering;
 

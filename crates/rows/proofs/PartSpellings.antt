@@ -14,18 +14,18 @@ use Rattle.quantities.specs.Isins.{is_isin}
 use Rattle.quantities.specs.declared.range.Rate.{Rate}
 use Rattle.quantities.specs.Ranges.{most_cash, most_titles, highest_reference, highest_price, highest_percentage, lowest_rate, highest_rate, longest_curve_term}
 use Rattle.quantities.specs.Tranches.{tranche_number}
-use Rattle.account.specs.declared.line.Side.{Side}
-use Rattle.account.specs.declared.line.Side.TheVariants.{Bought, Sold}
+use Rattle.account.specs.declared.side.Side.{Side}
+use Rattle.account.specs.declared.side.Side.TheVariants.{Bought, Sold}
 use Rattle.account.specs.declared.block.Block.{Block}
 use Rattle.account.specs.declared.block.Block.TheVariants.{Trade, Failed, Held, CashOnly}
 use Rattle.account.specs.Lines.{block_name, date, dated_block}
 use Rattle.account.specs.Answers.{has_titles}
-use Rattle.rows.specs.declared.day.Mode.{Mode}
-use Rattle.rows.specs.declared.day.Mode.TheVariants.{Net, Gross}
-use Rattle.rows.specs.declared.day.CurveShape.{CurveShape}
-use Rattle.rows.specs.declared.day.CurveShape.TheVariants.{Step, Sloping}
-use Rattle.account.specs.declared.block.BlockName.{BlockName}
-use Rattle.account.specs.declared.block.BlockName.TheVariants.{Trade as trade, Failed as failed, Held as held, CashOnly as cash_only}
+use Rattle.rows.specs.declared.mode.Mode.{Mode}
+use Rattle.rows.specs.declared.mode.Mode.TheVariants.{Net, Gross}
+use Rattle.rows.specs.declared.curve_shape.CurveShape.{CurveShape}
+use Rattle.rows.specs.declared.curve_shape.CurveShape.TheVariants.{Step, Sloping}
+use Rattle.account.specs.declared.block_name.BlockName.{BlockName}
+use Rattle.account.specs.declared.block_name.BlockName.TheVariants.{Trade as trade, Failed as failed, Held as held, CashOnly as cash_only}
 use Rattle.rows.specs.Forms.{date_in, is_date, last_date, isin_in}
 use Rattle.rows.specs.Days.{mode_in, mode_cell, curve_in, curve_cell}
 use Rattle.rows.specs.Percentages.{tranche_of_number, tranche_in, percentage_of_number, percentage_in}

@@ -5,10 +5,10 @@ use Rattle.std.proofs.lemmas.Bool.{and_parts, and_from, le-leb}
 use Rattle.quantities.specs.declared.tranche.Tranche.TheVariants.{UpToOneYear}
 use Rattle.quantities.specs.Isins.{is_isin}
 use Rattle.account.specs.Lines.{date}
-use Rattle.account.specs.declared.line.Side.TheVariants.{Bought}
-use Rattle.rows.specs.declared.day.Mode.TheVariants.{Net}
-use Rattle.rows.specs.declared.day.CurveShape.TheVariants.{Step}
-use Rattle.account.specs.declared.block.BlockName.TheVariants.{Trade as trade, Failed as failed, Held as held, CashOnly as cash_only}
+use Rattle.account.specs.declared.side.Side.TheVariants.{Bought}
+use Rattle.rows.specs.declared.mode.Mode.TheVariants.{Net}
+use Rattle.rows.specs.declared.curve_shape.CurveShape.TheVariants.{Step}
+use Rattle.account.specs.declared.block_name.BlockName.TheVariants.{Trade as trade, Failed as failed, Held as held, CashOnly as cash_only}
 use Rattle.rows.specs.Forms.{no_isin, date_in}
 use Rattle.rows.specs.Percentages.{no_margin_percentage}
 use Rattle.rows.specs.Points.{no_rate, no_point, point_cells}

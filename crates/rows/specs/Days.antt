@@ -4,10 +4,10 @@ use Rattle.std.specs.Fmt.{decimal}
 use Rattle.std.specs.Str.{bytes_eq}
 use Rattle.text.specs.Cells.{Cell}
 use Rattle.sheet.specs.Kinds.{SheetKind}
-use Rattle.rows.specs.declared.day.Mode.{Mode}
-use Rattle.rows.specs.declared.day.Mode.TheVariants.{Net, Gross}
-use Rattle.rows.specs.declared.day.CurveShape.{CurveShape}
-use Rattle.rows.specs.declared.day.CurveShape.TheVariants.{Step, Sloping}
+use Rattle.rows.specs.declared.mode.Mode.{Mode}
+use Rattle.rows.specs.declared.mode.Mode.TheVariants.{Net, Gross}
+use Rattle.rows.specs.declared.curve_shape.CurveShape.{CurveShape}
+use Rattle.rows.specs.declared.curve_shape.CurveShape.TheVariants.{Step, Sloping}
 use Rattle.rows.specs.declared.day.DayRow.{DayRow}
 use Rattle.rows.specs.Forms.{date_in, is_date}
 

@@ -6,15 +6,15 @@ use Rattle.text.specs.Cells.{Cell}
 use Rattle.text.specs.Numbers.{number_in}
 use Rattle.quantities.specs.Ranges.{most_cash, most_titles, highest_reference}
 use Rattle.account.specs.declared.line.Line.{Line}
-use Rattle.account.specs.declared.line.Side.{Side}
-use Rattle.account.specs.declared.line.Side.TheVariants.{Bought, Sold}
+use Rattle.account.specs.declared.side.Side.{Side}
+use Rattle.account.specs.declared.side.Side.TheVariants.{Bought, Sold}
 use Rattle.account.specs.declared.block.Block.{Block}
 use Rattle.account.specs.declared.block.Block.TheVariants.{Trade, Failed, Held, CashOnly}
 use Rattle.account.specs.Lines.{date, dated_block}
 use Rattle.account.specs.Answers.{is_well_formed}
 use Rattle.sheet.specs.Kinds.{SheetKind}
-use Rattle.account.specs.declared.block.BlockName.{BlockName}
-use Rattle.account.specs.declared.block.BlockName.TheVariants.{Trade as trade, Failed as failed, Held as held, CashOnly as cash_only}
+use Rattle.account.specs.declared.block_name.BlockName.{BlockName}
+use Rattle.account.specs.declared.block_name.BlockName.TheVariants.{Trade as trade, Failed as failed, Held as held, CashOnly as cash_only}
 use Rattle.rows.specs.Forms.{date_in, isin_in, no_isin, is_date}
 
 unfoldable pub reference_in : Cell → Option ℕ

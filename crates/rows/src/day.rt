@@ -3,24 +3,12 @@ ghost use Rattle.std.specs.Prelude.{◌≡◌, codes};
 ghost use Rattle.std.proofs.Common.{rules};
 ghost use Rattle.rows.specs.Days.{mode_in, curve_in, days};
 
+use crate::curve_shape::CurveShape;
 use crate::form::parse_date;
+use crate::mode::Mode;
 use quantities::date::Date;
 use sheet::cells::Cells;
 use sheet::kind::RowKind;
-
-/// The netting rule that the account is under.
-#[derive(Clone, Copy, PartialEq, Eq, Debug)]
-pub enum Mode {
-    Net,
-    Gross,
-}
-
-/// How rates lie between the points of the curve.
-#[derive(Clone, Copy, PartialEq, Eq, Debug)]
-pub enum CurveShape {
-    Step,
-    Sloping,
-}
 
 /// A day as it is handed.
 #[derive(Clone, Copy, PartialEq, Eq, Debug)]

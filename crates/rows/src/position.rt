@@ -4,8 +4,9 @@ ghost use Rattle.std.proofs.Common.{rules};
 ghost use Rattle.rows.specs.Positions.{reference_in, side_in, block_in, titles_in, cash_in, positions};
 
 use crate::form::{parse_date, parse_isin};
-use account::block::BlockName;
-use account::line::{Line, Side};
+use account::block_name::BlockName;
+use account::line::Line;
+use account::side::Side;
 use quantities::date::Date;
 use quantities::range::{Cash, Titles};
 use sheet::cells::Cells;

@@ -1,11 +1,14 @@
 //! The edges of every cell, and a row of each kind.
+use crate::curve_shape::*;
 use crate::day::*;
+use crate::mode::*;
 use crate::percentage::*;
 use crate::point::*;
 use crate::position::*;
 use crate::price::*;
 use account::block::Block;
 use account::line::*;
+use account::side::*;
 use curve::point::Point;
 use market::percentage::Percentage;
 use market::price::Price;

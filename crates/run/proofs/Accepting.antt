@@ -17,7 +17,7 @@ use Rattle.run.proofs.RowKinds.{days_known, positions_known, percentages_kept}
 use Rattle.quantities.specs.declared.isin.Isin.{Isin}
 use Rattle.account.specs.declared.line.Line.{Line}
 use Rattle.account.specs.Lines.{date, block_name, is_in_block, keep, sum_of}
-use Rattle.account.specs.declared.block.BlockName.{BlockName as Block}
+use Rattle.account.specs.declared.block_name.BlockName.{BlockName as Block}
 use Rattle.account.specs.Calls.{accepted, given, line_rank}
 use Rattle.account.specs.Answers.{is_well_formed, is_well_dated, titles_of, titles_with, enter_answer, answer_among, margin_answer}
 use Rattle.account.proofs.Terms.{same_isin_decides, same_kind_itself}

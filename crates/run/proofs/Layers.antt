@@ -6,7 +6,7 @@ use Rattle.curve.specs.declared.point.Point.{Point}
 use Rattle.market.specs.Contents.{Quotes}
 use Rattle.account.specs.declared.line.Line.{Line}
 use Rattle.account.specs.Lines.{block_name, is_same_block, is_trade}
-use Rattle.account.specs.declared.block.BlockName.TheVariants.{CashOnly as cash_only}
+use Rattle.account.specs.declared.block_name.BlockName.TheVariants.{CashOnly as cash_only}
 use Rattle.account.specs.Settings.{Setting, has_price, has_percentage, has_rate}
 use Rattle.account.specs.Rows.{statement_rows}
 use Rattle.account.specs.Calls.{Answer, accepted, refused, given}

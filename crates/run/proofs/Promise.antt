@@ -14,10 +14,10 @@ use Rattle.account.specs.Answers.{fault, answer_among, margin_answer}
 use Rattle.account.specs.Joint.{MarginHolds}
 use Rattle.account.proofs.History.{history_law}
 use Rattle.statement.specs.Statements.{statement_text}
-use Rattle.rows.specs.declared.day.Mode.{Mode}
-use Rattle.rows.specs.declared.day.Mode.TheVariants.{Net, Gross}
-use Rattle.rows.specs.declared.day.CurveShape.{CurveShape}
-use Rattle.rows.specs.declared.day.CurveShape.TheVariants.{Step, Sloping}
+use Rattle.rows.specs.declared.mode.Mode.{Mode}
+use Rattle.rows.specs.declared.mode.Mode.TheVariants.{Net, Gross}
+use Rattle.rows.specs.declared.curve_shape.CurveShape.{CurveShape}
+use Rattle.rows.specs.declared.curve_shape.CurveShape.TheVariants.{Step, Sloping}
 use Rattle.run.specs.Refusals.{PlacedRefusal, Outcome, refusal_of_run}
 use Rattle.run.specs.Runs.{most_bytes, most_lines, netting_rule, rate_by_shape, no_lines, Account, account_of_sheets, outcome_by_answer}
 use Rattle.run.specs.Laws.{records_with, MarginLaw, IsStatementOf, RunStatementLaw}

@@ -7,7 +7,7 @@ use Rattle.market.specs.Days.{is_next_day}
 use Rattle.curve.specs.Points.{point_rank}
 use Rattle.market.specs.Records.{price_rank, percentage_rank}
 use Rattle.account.specs.declared.line.Line.{Line}
-use Rattle.account.specs.declared.block.BlockName.{BlockName}
+use Rattle.account.specs.declared.block_name.BlockName.{BlockName}
 use Rattle.account.specs.Calls.{line_rank}
 use Rattle.account.specs.Answers.{is_well_dated, titles_of}
 use Rattle.account.specs.Margin.{margin, rounded_amounts}

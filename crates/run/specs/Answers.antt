@@ -3,8 +3,8 @@ use Rattle.std.specs.Prelude.{◌≡◌, ℕ, List, ◌++◌, length, drop, Ok, 
 use denote.Bor.{Bor}
 use Rattle.quantities.specs.Refusals.{number}
 use Rattle.account.specs.Calls.{given, refused}
-use Rattle.account.specs.declared.call.LineRefusal.{LineRefusal}
-use Rattle.account.specs.declared.call.Margin.{Margin}
+use Rattle.account.specs.declared.line_refusal.LineRefusal.{LineRefusal}
+use Rattle.account.specs.declared.margin.Margin.{Margin}
 use Rattle.account.specs.declared.row.Row.{Row}
 use Rattle.run.specs.declared.refusal.RunRefusal.{RunRefusal}
 use Rattle.run.specs.Refusals.{Outcome, placed_refusal}

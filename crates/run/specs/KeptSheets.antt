@@ -3,7 +3,7 @@ use Rattle.std.specs.Prelude.{◌≡◌, ℕ, List, [], ◌∷◌, Option, Some,
 use Rattle.sheet.specs.declared.refusal.SheetRefusal.{SheetRefusal}
 use Rattle.sheet.specs.Kinds.{SheetKind}
 use Rattle.sheet.specs.Sheets.{Rest, OpenSheet, open_answer, next_row, after_row, close_answer}
-use Rattle.account.specs.declared.call.LineRefusal.{LineRefusal}
+use Rattle.account.specs.declared.line_refusal.LineRefusal.{LineRefusal}
 use Rattle.run.specs.Refusals.{RowRefusal, row_refusal, Outcome, refusal_of_book, placed_sheet_refusal}
 
 -- a sheet that is read to its end: what is kept of its rows, how many they were,

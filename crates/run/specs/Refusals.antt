@@ -4,7 +4,7 @@ use Rattle.std.specs.Fmt.{decimal}
 use Rattle.quantities.specs.declared.refusal.Refusal.{Refusal}
 use Rattle.quantities.specs.Refusals.{number}
 use Rattle.sheet.specs.declared.refusal.SheetRefusal.{SheetRefusal}
-use Rattle.account.specs.declared.call.LineRefusal.{LineRefusal}
+use Rattle.account.specs.declared.line_refusal.LineRefusal.{LineRefusal}
 use Rattle.run.specs.declared.refusal.RunRefusal.{RunRefusal}
 use Rattle.run.specs.declared.refusal.Place.{Place}
 use Rattle.run.specs.declared.refusal.Place.TheVariants.{Whole, Sheet, Book, Margin}

@@ -18,10 +18,10 @@ use Rattle.sheet.specs.Sheets.{Rest}
 use Rattle.statement.specs.Statements.{statement_text}
 use Rattle.valuation.specs.Setups.{setting_with}
 use Rattle.rows.specs.declared.day.DayRow.{DayRow}
-use Rattle.rows.specs.declared.day.Mode.{Mode}
-use Rattle.rows.specs.declared.day.Mode.TheVariants.{Net, Gross}
-use Rattle.rows.specs.declared.day.CurveShape.{CurveShape}
-use Rattle.rows.specs.declared.day.CurveShape.TheVariants.{Step, Sloping}
+use Rattle.rows.specs.declared.mode.Mode.{Mode}
+use Rattle.rows.specs.declared.mode.Mode.TheVariants.{Net, Gross}
+use Rattle.rows.specs.declared.curve_shape.CurveShape.{CurveShape}
+use Rattle.rows.specs.declared.curve_shape.CurveShape.TheVariants.{Step, Sloping}
 use Rattle.rows.specs.Days.{days}
 use Rattle.rows.specs.Percentages.{percentages}
 use Rattle.rows.specs.Points.{points}

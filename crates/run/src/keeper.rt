@@ -3,7 +3,7 @@ ghost use Rattle.std.specs.Prelude.{◌≡◌, Result};
 ghost use Rattle.run.specs.Refusals.{RowRefusal};
 ghost use Rattle.run.specs.KeptSheets.{Keeps};
 
-use account::call::LineRefusal;
+use account::line_refusal::LineRefusal;
 
 /// What takes the rows of a sheet one by one, and turns some away.
 pub trait Keeper<R> {

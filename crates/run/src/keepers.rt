@@ -2,7 +2,7 @@
 ghost use Rattle.std.specs.Prelude.{◌≡◌};
 ghost use Rattle.run.specs.Refusals.{answer_with_reference};
 
-use account::call::LineRefusal;
+use account::line_refusal::LineRefusal;
 use quantities::refusal::Refusal;
 
 pub mod day;

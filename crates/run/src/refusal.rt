@@ -3,7 +3,7 @@ ghost use Rattle.std.specs.Prelude.{◌≡◌, Some};
 ghost use Rattle.run.specs.Refusals.{refusal_text, refusal_of_run, refusal_of_sheet, refusal_of_book, refusal_of_margin, row_refusal, placed_sheet_refusal, placed_refusal};
 ghost use Rattle.quantities.specs.Refusals.{number};
 
-use account::call::LineRefusal;
+use account::line_refusal::LineRefusal;
 use quantities::refusal::Refusal;
 use sheet::refusal::SheetRefusal;
 use std::error::Error;

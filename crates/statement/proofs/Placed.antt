@@ -2,8 +2,8 @@
 use Rattle.std.proofs.Common.{◌≡◌, ℕ, ◌+◌, ◌≤◌, ◌<◌, List, [], ◌++◌, length, take, drop, get_or, pos, sym, ap, ◌∙◌, arith, length-append, append_assoc}
 use Rattle.std.proofs.lemmas.List.{drop-drop, take_at, drop_at, length-take-le, at_drop_more}
 use Rattle.account.specs.declared.row.Row.{Row}
-use Rattle.account.specs.declared.row.Scope.TheVariants.{Trades}
-use Rattle.account.specs.declared.row.Scenario.TheVariants.{AllTrades}
+use Rattle.account.specs.declared.scope.Scope.TheVariants.{Trades}
+use Rattle.account.specs.declared.scenario.Scenario.TheVariants.{AllTrades}
 use Rattle.statement.specs.Statements.{row_text, rows_text, memory_with_bytes, Puts}
 
 -- a row of a list; past its end, one that is never asked for

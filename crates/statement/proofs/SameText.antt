@@ -5,10 +5,10 @@ use Rattle.std.proofs.lemmas.Fmt.{decimal_injective, signed_decimal_injective}
 use Rattle.std.specs.Fmt.{decimal, signed_decimal}
 use Rattle.std.specs.Prelude.{codes}
 use Rattle.account.specs.declared.row.Row.{Row}
-use Rattle.account.specs.declared.row.Scope.{Scope}
-use Rattle.account.specs.declared.row.Scope.TheVariants.{Trades, FailedLines, HeldLines, CashOnlyLines}
-use Rattle.account.specs.declared.row.Scenario.TheVariants.{AllTrades, WithoutToday, AfterNext}
-use Rattle.account.specs.declared.call.Margin.{Margin}
+use Rattle.account.specs.declared.scope.Scope.{Scope}
+use Rattle.account.specs.declared.scope.Scope.TheVariants.{Trades, FailedLines, HeldLines, CashOnlyLines}
+use Rattle.account.specs.declared.scenario.Scenario.TheVariants.{AllTrades, WithoutToday, AfterNext}
+use Rattle.account.specs.declared.margin.Margin.{Margin}
 use Rattle.account.specs.Rows.{block_of, scenario_of}
 use Rattle.statement.specs.Statements.{line_text, block_letter, head_text, row_text, rows_text, end_text}
 use Rattle.statement.specs.Laws.{IsCell, RowFits, EachRowFits, MarginFits, StatementLaw}

@@ -2,7 +2,7 @@
 use Rattle.std.specs.Prelude.{◌≡◌, ◌≢◌, ℕ, ◌^◌, ◌<◌, List, [], ◌∷◌, length, FitsSigned, ⊤}
 use Rattle.std.specs.Int.{w64}
 use Rattle.account.specs.declared.row.Row.{Row}
-use Rattle.account.specs.declared.call.Margin.{Margin}
+use Rattle.account.specs.declared.margin.Margin.{Margin}
 use Rattle.statement.specs.Statements.{statement_text}
 
 -- bytes without the two that end a cell, the semicolon and the line feed

@@ -4,8 +4,8 @@ use Rattle.std.specs.Fmt.{decimal, signed_decimal}
 use Rattle.quantities.specs.declared.refusal.Refusal.TheVariants.{TooLong}
 use Rattle.quantities.specs.Refusals.{number}
 use Rattle.account.specs.declared.row.Row.{Row}
-use Rattle.account.specs.declared.block.BlockName.{BlockName}
-use Rattle.account.specs.declared.block.BlockName.TheVariants.{Trade as trade, Failed as failed, Held as held, CashOnly as cash_only}
+use Rattle.account.specs.declared.block_name.BlockName.{BlockName}
+use Rattle.account.specs.declared.block_name.BlockName.TheVariants.{Trade as trade, Failed as failed, Held as held, CashOnly as cash_only}
 use Rattle.account.specs.Rows.{block_of, scenario_of}
 
 -- the text of a line: its cells, parted by semicolons and ended by a line feed

@@ -5,8 +5,10 @@ ghost use Rattle.account.specs.Rows.{block_of, scenario_of};
 ghost use Rattle.statement.specs.Statements.{block_letter, row_text, total_text, end_text, Puts};
 
 use crate::cell::{digits, put, put_number, put_signed, signed_len};
-use account::call::Margin;
-use account::row::{Row, Scenario, Scope};
+use account::margin::Margin;
+use account::row::Row;
+use account::scenario::Scenario;
+use account::scope::Scope;
 
 /// How long the line of a row is.
 pub(crate) fn row_len(row: &Row) -> usize

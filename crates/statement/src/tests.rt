@@ -1,7 +1,9 @@
 //! Whole statements, in buffers around their length.
 use crate::text::write_statement;
-use account::call::Margin;
-use account::row::{Row, Scenario, Scope};
+use account::margin::Margin;
+use account::row::Row;
+use account::scenario::Scenario;
+use account::scope::Scope;
 use quantities::isin::Isin;
 use quantities::refusal::Refusal;
 

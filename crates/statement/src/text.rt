@@ -5,7 +5,7 @@ ghost use Rattle.statement.specs.Statements.{statement_text, memory_with_bytes, 
 
 use crate::cell::put;
 use crate::line::{end_len, put_end, put_row, put_total, row_len, total_len};
-use account::call::Margin;
+use account::margin::Margin;
 use account::row::Row;
 use quantities::refusal::Refusal;
 use std::marker::Model;

@@ -8,8 +8,8 @@ use Rattle.account.specs.declared.line.Line.{Line}
 use Rattle.account.specs.declared.row.Row.{Row}
 use Rattle.account.specs.ByIsin.{lines_in}
 use Rattle.account.specs.Lines.{same_isin, is_in_block, keep}
-use Rattle.account.specs.declared.block.BlockName.{BlockName}
-use Rattle.account.specs.declared.block.BlockName.TheVariants.{Trade as trade, Failed as failed, Held as held, CashOnly as cash_only}
+use Rattle.account.specs.declared.block_name.BlockName.{BlockName}
+use Rattle.account.specs.declared.block_name.BlockName.TheVariants.{Trade as trade, Failed as failed, Held as held, CashOnly as cash_only}
 use Rattle.account.specs.Settings.{Setting}
 use Rattle.account.specs.Rows.{block_row, if_any, block_rows}
 use Rattle.valuation.specs.declared.tally.Tally.{Tally}

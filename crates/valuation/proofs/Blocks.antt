@@ -5,11 +5,11 @@ use Rattle.quantities.specs.declared.isin.Isin.{Isin}
 use Rattle.netting.specs.Rules.{both_sides}
 use Rattle.account.specs.declared.line.Line.{Line}
 use Rattle.account.specs.declared.row.Row.{Row}
-use Rattle.account.specs.declared.row.Scope.{Scope}
-use Rattle.account.specs.declared.row.Scope.TheVariants.{FailedLines, HeldLines}
+use Rattle.account.specs.declared.scope.Scope.{Scope}
+use Rattle.account.specs.declared.scope.Scope.TheVariants.{FailedLines, HeldLines}
 use Rattle.account.specs.Lines.{is_in_block, keep, any}
-use Rattle.account.specs.declared.block.BlockName.{BlockName}
-use Rattle.account.specs.declared.block.BlockName.TheVariants.{Failed as failed, Held as held}
+use Rattle.account.specs.declared.block_name.BlockName.{BlockName}
+use Rattle.account.specs.declared.block_name.BlockName.TheVariants.{Failed as failed, Held as held}
 use Rattle.account.specs.Settings.{Setting}
 use Rattle.account.specs.Rows.{row, block_row, if_any}
 use Rattle.valuation.specs.declared.line_sums.LineSums.{LineSums}

@@ -6,9 +6,9 @@ use Rattle.account.specs.declared.block.Block.{Block}
 use Rattle.account.specs.declared.block.Block.TheVariants.{Trade, Failed, Held, CashOnly}
 use Rattle.account.specs.declared.line.Line.{Line}
 use Rattle.account.specs.declared.row.Row.{Row}
-use Rattle.account.specs.declared.row.Scope.TheVariants.{CashOnlyLines}
+use Rattle.account.specs.declared.scope.Scope.TheVariants.{CashOnlyLines}
 use Rattle.account.specs.Lines.{block_name, is_same_block, is_trade, if_bought, if_sold, is_in_block, keep, sum_of}
-use Rattle.account.specs.declared.block.BlockName.TheVariants.{Trade as trade, CashOnly as cash_only}
+use Rattle.account.specs.declared.block_name.BlockName.TheVariants.{Trade as trade, CashOnly as cash_only}
 use Rattle.account.specs.Settings.{Setting}
 use Rattle.account.specs.Charges.{cash_rounded_up, cash_rounded_down, cash_charged, cash_credited}
 use Rattle.account.specs.Rows.{cash_row}

@@ -4,7 +4,7 @@ use Rattle.std.proofs.lemmas.Int.{ints}
 use Rattle.quantities.specs.declared.isin.Isin.{Isin}
 use Rattle.quantities.specs.Amounts.{initial_margin, market_value}
 use Rattle.account.specs.declared.line.Line.{Line}
-use Rattle.account.specs.declared.row.Scope.{Scope}
+use Rattle.account.specs.declared.scope.Scope.{Scope}
 use Rattle.account.specs.declared.row.Row.{Row}
 use Rattle.account.specs.Settings.{Setting, has_price, has_percentage, unit_price, percentage_of}
 use Rattle.account.specs.Charges.{titles_bought, titles_sold, cash_charged, cash_credited}

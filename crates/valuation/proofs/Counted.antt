@@ -7,8 +7,8 @@ use Rattle.account.specs.declared.by_isin.ByIsin.{ByIsin}
 use Rattle.account.specs.declared.line.Line.{Line}
 use Rattle.account.specs.ByIsin.{lines_in}
 use Rattle.account.specs.Lines.{block_name, is_same_block, same_isin, is_in_block, keep}
-use Rattle.account.specs.declared.block.BlockName.{BlockName}
-use Rattle.account.specs.declared.block.BlockName.TheVariants.{Trade as trade, Failed as failed, Held as held, CashOnly as cash_only}
+use Rattle.account.specs.declared.block_name.BlockName.{BlockName}
+use Rattle.account.specs.declared.block_name.BlockName.TheVariants.{Trade as trade, Failed as failed, Held as held, CashOnly as cash_only}
 
 -- how many lines are of an ISIN
 abbrev pub isin_line_count : Isin → List Line → ℕ

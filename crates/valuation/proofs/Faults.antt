@@ -7,7 +7,7 @@ use Rattle.quantities.specs.declared.refusal.Refusal.{Refusal}
 use Rattle.account.specs.declared.by_isin.ByIsin.{ByIsin}
 use Rattle.account.specs.declared.line.Line.{Line}
 use Rattle.account.specs.ByIsin.{lines_in}
-use Rattle.account.specs.declared.call.LineRefusal.{LineRefusal}
+use Rattle.account.specs.declared.line_refusal.LineRefusal.{LineRefusal}
 use Rattle.account.specs.Settings.{Setting}
 use Rattle.account.specs.Margin.{margin, rounded_amounts}
 use Rattle.account.specs.Calls.{given}

@@ -5,7 +5,7 @@ use Rattle.quantities.specs.Ranges.{most_titles}
 use Rattle.quantities.specs.declared.isin.Isin.{Isin}
 use Rattle.account.specs.declared.by_isin.ByIsin.{ByIsin}
 use Rattle.account.specs.declared.line.Line.{Line}
-use Rattle.account.specs.declared.row.Scope.{Scope}
+use Rattle.account.specs.declared.scope.Scope.{Scope}
 use Rattle.account.specs.Lines.{block_name, is_same_block, same_isin, if_bought, if_sold, sum_of}
 use Rattle.account.specs.Rows.{block_of}
 use Rattle.account.specs.Settings.{Setting}

@@ -5,8 +5,8 @@ use Rattle.quantities.specs.declared.isin.Isin.{Isin}
 use Rattle.account.specs.declared.line.Line.{Line}
 use Rattle.account.specs.declared.row.Row.{Row}
 use Rattle.account.specs.Lines.{is_same_block, is_in_block, keep, sum_of, isins}
-use Rattle.account.specs.declared.block.BlockName.{BlockName}
-use Rattle.account.specs.declared.block.BlockName.TheVariants.{Trade as trade, Failed as failed, Held as held, CashOnly as cash_only}
+use Rattle.account.specs.declared.block_name.BlockName.{BlockName}
+use Rattle.account.specs.declared.block_name.BlockName.TheVariants.{Trade as trade, Failed as failed, Held as held, CashOnly as cash_only}
 use Rattle.account.specs.Settings.{Setting}
 use Rattle.account.specs.Rows.{block_of, block_row, if_any, block_rows, isin_rows, rows_of_isins, statement_rows}
 use Rattle.account.specs.Margin.{not_below_zero, total, two_if_any, rounded_amounts_at}

@@ -6,7 +6,7 @@ use Rattle.quantities.specs.Ranges.{most_titles}
 use Rattle.market.specs.Records.{isin_rank}
 use Rattle.account.specs.declared.line.Line.{Line}
 use Rattle.account.specs.Lines.{is_in_block, keep, sum_of}
-use Rattle.account.specs.declared.block.BlockName.{BlockName}
+use Rattle.account.specs.declared.block_name.BlockName.{BlockName}
 use Rattle.account.specs.Answers.{is_well_formed, is_well_dated, titles_of}
 use Rattle.account.specs.Settings.{Setting}
 use Rattle.account.specs.Valid.{all_valid}

@@ -12,8 +12,8 @@ use Rattle.account.specs.declared.by_isin.ByIsin.{ByIsin}
 use Rattle.account.specs.declared.line.Line.{Line}
 use Rattle.account.specs.ByIsin.{lines_in}
 use Rattle.account.specs.Lines.{same_isin, is_in_block, keep, has_isin, with_isin, isins, TwelveBytes}
-use Rattle.account.specs.declared.block.BlockName.{BlockName}
-use Rattle.account.specs.declared.block.BlockName.TheVariants.{Trade as trade, Failed as failed, Held as held, CashOnly as cash_only}
+use Rattle.account.specs.declared.block_name.BlockName.{BlockName}
+use Rattle.account.specs.declared.block_name.BlockName.TheVariants.{Trade as trade, Failed as failed, Held as held, CashOnly as cash_only}
 use Rattle.account.specs.Settings.{Setting}
 use Rattle.account.specs.Rows.{block_row, if_any, block_rows, isin_rows, rows_of_isins, statement_rows}
 use Rattle.account.proofs.Ordered.{ranks_apart}

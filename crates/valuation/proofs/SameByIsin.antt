@@ -11,7 +11,7 @@ use Rattle.account.specs.declared.line.Line.{Line}
 use Rattle.account.specs.declared.row.Row.{Row}
 use Rattle.account.specs.ByIsin.{isin_line_rank, lines_by_isin, lines_in, SmallReferences}
 use Rattle.account.specs.Lines.{sum_of}
-use Rattle.account.specs.declared.block.BlockName.{BlockName}
+use Rattle.account.specs.declared.block_name.BlockName.{BlockName}
 use Rattle.account.specs.Answers.{is_well_formed, is_well_dated, fault, titles_of}
 use Rattle.account.specs.Calls.{line_rank}
 use Rattle.account.specs.Settings.{Setting}

@@ -4,8 +4,8 @@ use Rattle.std.proofs.lemmas.List.{length-append}
 use Rattle.std.proofs.lemmas.Int.{ints}
 use Rattle.account.specs.declared.row.Row.{Row}
 use Rattle.account.specs.Lines.{is_same_block}
-use Rattle.account.specs.declared.block.BlockName.{BlockName}
-use Rattle.account.specs.declared.block.BlockName.TheVariants.{Trade as trade, Failed as failed, Held as held, CashOnly as cash_only}
+use Rattle.account.specs.declared.block_name.BlockName.{BlockName}
+use Rattle.account.specs.declared.block_name.BlockName.TheVariants.{Trade as trade, Failed as failed, Held as held, CashOnly as cash_only}
 use Rattle.account.specs.Rows.{block_of, charge}
 use Rattle.account.proofs.Sums.{sum_both, sum_kept, sum_joined}
 use Rattle.valuation.specs.declared.tally.Tally.{Tally}

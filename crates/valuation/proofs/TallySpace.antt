@@ -5,7 +5,7 @@ use Rattle.std.proofs.lemmas.Int.{ints}
 use Rattle.std.proofs.lemmas.Bool.{cond_both}
 use Rattle.account.specs.declared.row.Row.{Row}
 use Rattle.account.specs.Lines.{is_same_block}
-use Rattle.account.specs.declared.block.BlockName.TheVariants.{Trade as trade, Failed as failed, Held as held, CashOnly as cash_only}
+use Rattle.account.specs.declared.block_name.BlockName.TheVariants.{Trade as trade, Failed as failed, Held as held, CashOnly as cash_only}
 use Rattle.account.specs.Rows.{block_of, charge}
 use Rattle.account.proofs.Sums.{sum_joined}
 use Rattle.valuation.specs.declared.tally.Tally.{Tally}

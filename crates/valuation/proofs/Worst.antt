@@ -6,10 +6,10 @@ use Rattle.std.proofs.lemmas.Bool.{cond_both}
 use Rattle.quantities.specs.declared.isin.Isin.{Isin}
 use Rattle.account.specs.declared.line.Line.{Line}
 use Rattle.account.specs.declared.row.Row.{Row}
-use Rattle.account.specs.declared.row.Scenario.TheVariants.{AllTrades, WithoutToday, AfterNext}
-use Rattle.account.specs.declared.row.Scope.TheVariants.{Trades}
+use Rattle.account.specs.declared.scenario.Scenario.TheVariants.{AllTrades, WithoutToday, AfterNext}
+use Rattle.account.specs.declared.scope.Scope.TheVariants.{Trades}
 use Rattle.account.specs.Lines.{is_in_block, keep}
-use Rattle.account.specs.declared.block.BlockName.TheVariants.{Trade as trade}
+use Rattle.account.specs.declared.block_name.BlockName.TheVariants.{Trade as trade}
 use Rattle.account.specs.Settings.{Setting}
 use Rattle.account.specs.Rows.{charge, row, worse, worst}
 use Rattle.valuation.specs.RowCharges.{RowWithin}

@@ -6,7 +6,7 @@ use Rattle.quantities.specs.declared.refusal.Refusal.{Refusal}
 use Rattle.quantities.specs.declared.refusal.Refusal.TheVariants.{NoPrice, NoPercentage, NoRate}
 use Rattle.quantities.specs.Refusals.{number}
 use Rattle.account.specs.declared.line.Line.{Line}
-use Rattle.account.specs.declared.call.LineRefusal.{LineRefusal}
+use Rattle.account.specs.declared.line_refusal.LineRefusal.{LineRefusal}
 use Rattle.account.specs.Settings.{Setting, has_price, has_percentage}
 use Rattle.account.specs.Calls.{refused}
 use Rattle.account.specs.Answers.{fault, answer_among}

@@ -2,11 +2,11 @@
 use Rattle.std.specs.Prelude.{ℕ, Bool, List, length, Result}
 use Rattle.account.specs.declared.line.Line.{Line}
 use Rattle.account.specs.declared.row.Row.{Row}
-use Rattle.account.specs.declared.row.Scope.{Scope}
+use Rattle.account.specs.declared.scope.Scope.{Scope}
 use Rattle.account.specs.ByIsin.{lines_in}
 use Rattle.account.specs.Charges.{cash_charged, cash_credited}
 use Rattle.account.specs.Lines.{is_in_block, keep, any}
-use Rattle.account.specs.declared.block.BlockName.{BlockName}
+use Rattle.account.specs.declared.block_name.BlockName.{BlockName}
 use Rattle.account.specs.Rows.{row, block_row, block_rows, isin_rows}
 use Rattle.account.specs.Settings.{Setting}
 use Rattle.valuation.specs.declared.basis.Basis.{Ghosts}

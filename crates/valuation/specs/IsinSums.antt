@@ -1,9 +1,9 @@
 -- The sums of the lines of one ISIN, for each of the rows that it may have.
 use Rattle.std.specs.Prelude.{ℕ}
 use Rattle.account.specs.declared.line.Line.{Line}
-use Rattle.account.specs.declared.row.Scenario.TheVariants.{AllTrades, WithoutToday, AfterNext}
-use Rattle.account.specs.declared.row.Scope.{Scope}
-use Rattle.account.specs.declared.row.Scope.TheVariants.{Trades, FailedLines, HeldLines, CashOnlyLines}
+use Rattle.account.specs.declared.scenario.Scenario.TheVariants.{AllTrades, WithoutToday, AfterNext}
+use Rattle.account.specs.declared.scope.Scope.{Scope}
+use Rattle.account.specs.declared.scope.Scope.TheVariants.{Trades, FailedLines, HeldLines, CashOnlyLines}
 use Rattle.account.specs.Settings.{Setting}
 use Rattle.valuation.specs.declared.isin_sums.IsinSums.{IsinSums}
 use Rattle.valuation.specs.declared.line_sums.LineSums.{LineSums}

@@ -2,7 +2,7 @@
 use Rattle.std.specs.Prelude.{◌≡◌, ℕ, ◌+◌, ◌≤◌, if◌then◌else◌, List, length}
 use Rattle.std.specs.Coded.{Coded-set, coded_ℕ, le_prop}
 use Rattle.account.specs.declared.line.Line.{Line}
-use Rattle.account.specs.declared.row.Scope.{Scope}
+use Rattle.account.specs.declared.scope.Scope.{Scope}
 use Rattle.account.specs.Lines.{if_bought, if_sold}
 use Rattle.account.specs.Settings.{Setting}
 use Rattle.valuation.specs.declared.line_sums.LineSums.{LineSums}

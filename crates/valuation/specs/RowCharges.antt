@@ -1,8 +1,8 @@
 -- What rows are charged, and how far their amounts go.
 use Rattle.std.specs.Prelude.{ℕ, ◌*◌, ◌≤◌, pos, neg_ℤ, ◌≤ℤ◌}
 use Rattle.netting.specs.Rules.{both_sides}
-use Rattle.account.specs.declared.row.Scope.{Scope}
-use Rattle.account.specs.declared.row.Scope.TheVariants.{Trades, FailedLines, HeldLines, CashOnlyLines}
+use Rattle.account.specs.declared.scope.Scope.{Scope}
+use Rattle.account.specs.declared.scope.Scope.TheVariants.{Trades, FailedLines, HeldLines, CashOnlyLines}
 use Rattle.account.specs.declared.row.Row.{Row}
 use Rattle.account.specs.Rows.{charge}
 

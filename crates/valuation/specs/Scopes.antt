@@ -2,13 +2,13 @@
 use Rattle.std.specs.Prelude.{ℕ, Bool, true, not, ◌&&◌, List, ◌==◌, nat_le}
 use Rattle.quantities.specs.declared.isin.Isin.{Isin}
 use Rattle.account.specs.declared.line.Line.{Line}
-use Rattle.account.specs.declared.row.Scenario.{Scenario}
-use Rattle.account.specs.declared.row.Scenario.TheVariants.{AllTrades, WithoutToday, AfterNext}
-use Rattle.account.specs.declared.row.Scope.{Scope}
-use Rattle.account.specs.declared.row.Scope.TheVariants.{Trades, FailedLines, HeldLines, CashOnlyLines}
+use Rattle.account.specs.declared.scenario.Scenario.{Scenario}
+use Rattle.account.specs.declared.scenario.Scenario.TheVariants.{AllTrades, WithoutToday, AfterNext}
+use Rattle.account.specs.declared.scope.Scope.{Scope}
+use Rattle.account.specs.declared.scope.Scope.TheVariants.{Trades, FailedLines, HeldLines, CashOnlyLines}
 use Rattle.account.specs.Lines.{date, block_name, is_same_block, is_in_block, keep}
-use Rattle.account.specs.declared.block.BlockName.{BlockName}
-use Rattle.account.specs.declared.block.BlockName.TheVariants.{Trade as trade, Failed as failed, Held as held, CashOnly as cash_only}
+use Rattle.account.specs.declared.block_name.BlockName.{BlockName}
+use Rattle.account.specs.declared.block_name.BlockName.TheVariants.{Trade as trade, Failed as failed, Held as held, CashOnly as cash_only}
 use Rattle.account.specs.Settings.{Setting}
 use Rattle.account.specs.Rows.{block_of}
 

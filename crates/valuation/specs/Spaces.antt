@@ -3,7 +3,7 @@
 use Rattle.std.specs.Prelude.{ℕ, ◌+◌, ◌*◌, ◌≤◌, List, length, ℤ, pos, neg_ℤ, ◌≤ℤ◌}
 use Rattle.account.specs.declared.row.Row.{Row}
 use Rattle.account.specs.Lines.{sum_of}
-use Rattle.account.specs.declared.block.BlockName.{BlockName}
+use Rattle.account.specs.declared.block_name.BlockName.{BlockName}
 use Rattle.valuation.specs.declared.tally.Tally.{Tally}
 use Rattle.valuation.specs.Tallies.{block_charges, rounded_count}
 

@@ -3,7 +3,7 @@ use Rattle.std.specs.Prelude.{◌≡◌, List, length, Ok, Err, Result}
 use Rattle.quantities.specs.Refusals.{number}
 use Rattle.account.specs.declared.line.Line.{Line}
 use Rattle.account.specs.declared.row.Row.{Row}
-use Rattle.account.specs.declared.call.LineRefusal.{LineRefusal}
+use Rattle.account.specs.declared.line_refusal.LineRefusal.{LineRefusal}
 use Rattle.account.specs.Settings.{Setting}
 use Rattle.account.specs.Rows.{statement_rows}
 use Rattle.account.specs.Margin.{margin, rounded_amounts}

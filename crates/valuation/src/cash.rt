@@ -4,10 +4,12 @@ ghost use Rattle.valuation.specs.Cash.{cash_of, IsWorkable};
 
 use crate::basis::Basis;
 use account::block::Block;
-use account::line::{Line, Side};
+use account::line::Line;
+use account::side::Side;
 use quantities::amount::{Cents, present_value_down, present_value_up};
 use quantities::date::term_days;
-use quantities::range::{Cash, Term};
+use quantities::range::Cash;
+use quantities::term::Term;
 
 /// The cash of a line: that of a trade is discounted, and rounded up where it is charged, down
 /// where it is credited.

@@ -6,8 +6,8 @@ ghost use Rattle.valuation.specs.Checks.{Faultless, FindsFirstFault};
 use crate::basis::Basis;
 use crate::lookups::Lookups;
 use account::by_isin::ByIsin;
-use account::call::LineRefusal;
 use account::line::Line;
+use account::line_refusal::LineRefusal;
 
 // Refuses the first fault of lines, which come by reference.
 fn check_by_reference<B: Basis>(basis: &B, lines: &[Line]) -> Result<(), LineRefusal>

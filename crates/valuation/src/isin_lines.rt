@@ -4,7 +4,7 @@ ghost use Rattle.std.specs.List.{list_all};
 ghost use Rattle.account.specs.Answers.{titles_of};
 ghost use Rattle.account.specs.ByIsin.{lines_in};
 ghost use Rattle.account.specs.Lines.{same_isin};
-ghost use Rattle.account.specs.declared.block.BlockName.{BlockName};
+ghost use Rattle.account.specs.declared.block_name.BlockName.{BlockName};
 ghost use Rattle.account.specs.Valid.{all_valid};
 ghost use Rattle.quantities.specs.Ranges.{most_titles};
 ghost use Rattle.quantities.specs.declared.isin.Isin.{Isin};

@@ -1,13 +1,14 @@
 //! The sums of the lines of one ISIN, for each of the rows that it may have.
 ghost use Rattle.std.specs.Prelude.{◌≡◌, ◌≤◌};
-ghost use Rattle.account.specs.declared.row.Scope.{Scope};
+ghost use Rattle.account.specs.declared.scope.Scope.{Scope};
 ghost use Rattle.valuation.specs.IsinSums.{scope_sums, AddsLineToEach};
 ghost use Rattle.valuation.specs.LineSums.{no_sums, SumsWithin};
 
 use crate::basis::Basis;
 use crate::line_sums::LineSums;
 use account::line::Line;
-use account::row::{Scenario, Scope};
+use account::scenario::Scenario;
+use account::scope::Scope;
 use quantities::amount::Cents;
 
 /// The sums of the lines of one ISIN, for each row.

@@ -6,7 +6,7 @@ use crate::basis::Basis;
 use crate::per_side::PerSide;
 use crate::scope::is_in_scope;
 use account::line::Line;
-use account::row::Scope;
+use account::scope::Scope;
 use quantities::amount::Cents;
 
 /// What the lines come to that a row is worked on: how many there are, their titles and their cash.

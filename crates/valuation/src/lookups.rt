@@ -6,8 +6,8 @@ ghost use Rattle.valuation.specs.Checks.{number_or_zero, quote_fault, rate_fault
 
 use crate::basis::Basis;
 use account::block::Block;
-use account::call::LineRefusal;
 use account::line::Line;
+use account::line_refusal::LineRefusal;
 use quantities::date::term_days;
 use quantities::isin::Isin;
 use quantities::refusal::Refusal;

@@ -2,7 +2,7 @@
 ghost use Rattle.std.specs.Prelude.{◌≡◌, ◌+◌, ◌<◌, ◌^◌};
 ghost use Rattle.account.specs.Lines.{if_bought, if_sold};
 
-use account::line::Side;
+use account::side::Side;
 
 /// A sum over the lines bought, and one over the lines sold.
 #[derive(Clone, Copy)]

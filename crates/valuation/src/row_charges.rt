@@ -4,7 +4,8 @@ ghost use Rattle.account.specs.Rows.{charge, worse};
 ghost use Rattle.valuation.specs.RowCharges.{scope_rule, RowWithin};
 
 use crate::basis::Basis;
-use account::row::{Row, Scope};
+use account::row::Row;
+use account::scope::Scope;
 use netting::{BothSides, NettingRule, Position};
 use quantities::amount::SignedCents;
 use quantities::range::Titles;

@@ -3,9 +3,11 @@ ghost use Rattle.valuation.specs.Scopes.{whole_scope, settles_in, is_in_scope};
 ghost use Rattle.std.specs.Prelude.{◌≡◌};
 
 use crate::basis::Basis;
-use account::block::{Block, BlockName};
+use account::block::Block;
+use account::block_name::BlockName;
 use account::line::Line;
-use account::row::{Scenario, Scope};
+use account::scenario::Scenario;
+use account::scope::Scope;
 use quantities::date::Date;
 
 /// The scope that leaves no line of a block out.

@@ -9,7 +9,7 @@ ghost use Rattle.valuation.specs.Tallies.{tally_cents};
 use crate::tally::Tally;
 use account::block::Block;
 use account::by_isin::ByIsin;
-use account::call::Margin;
+use account::margin::Margin;
 use quantities::amount::{Cents, SignedCents};
 
 /// A margin, and how many rows its statement has.

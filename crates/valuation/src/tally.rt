@@ -6,7 +6,8 @@ ghost use Rattle.valuation.specs.Spaces.{TallyWithin};
 ghost use Rattle.valuation.specs.Tallies.{rounded_count, IsEmpty, AddsRows};
 
 use crate::row_charges::charge_of;
-use account::row::{Row, Scope};
+use account::row::Row;
+use account::scope::Scope;
 use quantities::amount::SignedCents;
 
 /// The charges of rows by block, their count and that of their rounded amounts, and lent places

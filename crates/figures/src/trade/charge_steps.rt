@@ -1,6 +1,7 @@
 //! The steps of a trade's charge.
 use quantities::amount::{Cents, SignedCents};
-use quantities::range::{Term, Titles};
+use quantities::range::Titles;
+use quantities::term::Term;
 use quantities::tranche::Tranche;
 
 /// What each step of a trade's charge comes to.

@@ -1,8 +1,9 @@
 //! The parts of a trade as quantities.
-use account::line::Side;
+use account::side::Side;
 use netting::Position;
 use quantities::amount::{SignedCents, market_value, present_value_down, present_value_up};
-use quantities::range::{Cash, MarginPercentage, Rate, Term, UnitPrice};
+use quantities::range::{Cash, MarginPercentage, Rate, UnitPrice};
+use quantities::term::Term;
 
 /// The parts of a trade, each within its range.
 #[derive(Clone, Copy)]

@@ -10,10 +10,12 @@ ghost use Rattle.run.specs.Runs.{one_day};
 use crate::keeper::Keeper;
 use crate::read_sheet::ReadSheet;
 use crate::refusal::RunRefusal;
-use account::call::LineRefusal;
+use account::line_refusal::LineRefusal;
 use market::day::Day;
 use quantities::refusal::Refusal;
-use rows::day::{CurveShape, DayRow, Mode};
+use rows::curve_shape::CurveShape;
+use rows::day::DayRow;
+use rows::mode::Mode;
 
 /// A day with the netting rule and the form of the curve that it names.
 #[derive(Clone, Copy)]

@@ -6,8 +6,8 @@ ghost use Rattle.book.specs.Books.{lines_of, room_for, today_of};
 
 use super::answer_with_reference;
 use crate::keeper::Keeper;
-use account::call::LineRefusal;
 use account::line::Line;
+use account::line_refusal::LineRefusal;
 use book::book::Book;
 
 impl<'m, 'p, 'l> Keeper<Line> for Book<'m, 'p, 'l> {

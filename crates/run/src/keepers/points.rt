@@ -5,7 +5,7 @@ ghost use Rattle.run.specs.Kept.{keep_point};
 
 use super::answer_with_reference;
 use crate::keeper::Keeper;
-use account::call::LineRefusal;
+use account::line_refusal::LineRefusal;
 use curve::point::Point;
 use curve::point::points::Points;
 

@@ -5,7 +5,7 @@ ghost use Rattle.run.specs.Kept.{keep_price, keep_percentage};
 
 use super::answer_with_reference;
 use crate::keeper::Keeper;
-use account::call::LineRefusal;
+use account::line_refusal::LineRefusal;
 use market::market::Market;
 use market::percentage::Percentage;
 use market::price::Price;

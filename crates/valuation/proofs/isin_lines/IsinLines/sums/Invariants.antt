@@ -1,5 +1,5 @@
 use Rattle.account.specs.ByIsin.{lines_in}
-use Rattle.account.specs.declared.row.Scope.{Scope}
+use Rattle.account.specs.declared.scope.Scope.{Scope}
 use Rattle.valuation.specs.IsinSums.{scope_sums}
 use Rattle.valuation.proofs.IsinSums.{SumsBefore}
 use Rattle.valuation.proofs.isin_lines.IsinLines.sums.Given as goal

@@ -1,5 +1,5 @@
-use Rattle.account.specs.declared.row.Scenario.TheVariants.{AllTrades, WithoutToday, AfterNext}
-use Rattle.account.specs.declared.row.Scope.TheVariants.{Trades, FailedLines, HeldLines, CashOnlyLines}
+use Rattle.account.specs.declared.scenario.Scenario.TheVariants.{AllTrades, WithoutToday, AfterNext}
+use Rattle.account.specs.declared.scope.Scope.TheVariants.{Trades, FailedLines, HeldLines, CashOnlyLines}
 use Rattle.valuation.proofs.isin_sums.IsinSums.add.Goals as goal
 
 pub add-requires-clause-room : goal.add-requires-clause-room

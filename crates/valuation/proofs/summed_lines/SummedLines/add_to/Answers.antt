@@ -1,6 +1,6 @@
 use Rattle.std.proofs.Common.{◌∙◌, subst, arith}
 use Rattle.account.specs.ByIsin.{lines_in}
-use Rattle.account.specs.declared.block.BlockName.TheVariants.{Trade as trade, Failed as failed, Held as held, CashOnly as cash_only}
+use Rattle.account.specs.declared.block_name.BlockName.TheVariants.{Trade as trade, Failed as failed, Held as held, CashOnly as cash_only}
 use Rattle.account.specs.Rows.{isin_rows}
 use Rattle.valuation.specs.Spaces.{RowsWithin}
 use Rattle.valuation.proofs.TallyRows.{tallied_both}

@@ -1,10 +1,10 @@
 use Rattle.std.proofs.Common.{ℕ, ◌≤◌, ◌*◌, length, pos, ap, arith}
 use Rattle.std.proofs.lemmas.Int.{ints}
 use Rattle.quantities.specs.declared.isin.Isin.{Isin}
-use Rattle.account.specs.declared.row.Scope.TheVariants.{CashOnlyLines}
+use Rattle.account.specs.declared.scope.Scope.TheVariants.{CashOnlyLines}
 use Rattle.account.specs.ByIsin.{lines_in}
 use Rattle.account.specs.Lines.{is_in_block, keep}
-use Rattle.account.specs.declared.block.BlockName.TheVariants.{CashOnly as cash_only}
+use Rattle.account.specs.declared.block_name.BlockName.TheVariants.{CashOnly as cash_only}
 use Rattle.valuation.specs.RowCharges.{RowWithin}
 use Rattle.valuation.proofs.Scopes.{lines_cash}
 use Rattle.valuation.proofs.CashOnly.{cash_row_is}

@@ -1,5 +1,5 @@
 use Rattle.account.specs.ByIsin.{lines_in}
-use Rattle.account.specs.declared.block.BlockName.TheVariants.{Trade as trade}
+use Rattle.account.specs.declared.block_name.BlockName.TheVariants.{Trade as trade}
 use Rattle.valuation.proofs.Scopes.{block_few}
 use Rattle.valuation.proofs.Worst.{within_more, worse_within, worst_is}
 use Rattle.valuation.proofs.summed_lines.SummedLines.trades_row.Goals as goal

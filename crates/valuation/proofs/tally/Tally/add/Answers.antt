@@ -1,5 +1,5 @@
 use Rattle.std.proofs.Common.{◌+◌, refl, ap}
-use Rattle.account.specs.declared.row.Scope.TheVariants.{Trades, FailedLines, HeldLines, CashOnlyLines}
+use Rattle.account.specs.declared.scope.Scope.TheVariants.{Trades, FailedLines, HeldLines, CashOnlyLines}
 use Rattle.valuation.proofs.TallyRow.{sum_fits, sum_is, same_sum, tallied_one}
 use Rattle.valuation.proofs.tally.Tally.add.Goals as goal
 
