@@ -3,6 +3,7 @@
 #   fact      refused because a fact in the code fails
 #   proofs    refused because an answer in a proof file no longer is one
 #   unfit     refused only because a proof file names what the edit took away, which shows little
+#   silent    refused, and nothing is said of why
 #   PROVED    let through: a contract says too little
 #   bad       no longer an edit of its file
 # usage: tests/planted/try.sh [CRATE..]      without names: every crate that has a folder here
@@ -24,6 +25,7 @@ for crate in "$@"; do
         -e 's/^rt: must-fail ([^:]*)\.edit: refused, as it must be: (note: )?src\/(.*)/fact    \1  \3/p' \
         -e 's/^rt: must-fail ([^:]*)\.edit: refused, as it must be: (.*)/proofs  \1  \2/p' \
         -e 's/^rt: must-fail ([^:]*)\.edit: refused, as it must be \(only because.*/unfit   \1/p' \
+        -e 's/^rt: must-fail ([^:]*)\.edit: refused, as it must be$/silent  \1/p' \
         -e '/^rt: must-fail .*refused, as it must be/d' \
         -e 's/^rt: must-fail ([^:]*)\.edit: (.*(BAD|NOT TRIED).*)/bad     \1  \2/p' \
         -e '/BAD EDIT|NOT TRIED/d' \
