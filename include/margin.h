@@ -1,13 +1,13 @@
 /*
  * The margin of one account, as one call: the five sheets of a run in, the statement of the account or a
- * refusal out. Link with libmargin_c.a, which stands on nothing but memcpy and memset of the C library.
+ * refusal out. Link with libmargin_c.a, which stands on nothing but memmove and memset of the C library.
  *
  * What is asked of the caller, of both functions:
  * - input points to input_len bytes, statement to statement_len bytes, none of them used by anyone else
  *   until the call returns. A pointer may be NULL only where its length is 0. refusal is never NULL.
  * - The input, the statement and the refusal do not overlap.
  * - No length is above PTRDIFF_MAX.
- * - About 100 KiB of stack are free (measured).
+ * - The calling thread has at least MARGIN_STACK_BYTES of stack, and has used little of it.
  * Nothing is asked of what the bytes are: every input of every length has an answer. What the statement and
  * the refusal hold before the call is not read.
  *
@@ -27,11 +27,13 @@ extern "C" {
 #define MARGIN_MOST_INPUT 65536
 
 /*
- * A buffer of so many bytes holds every statement. A statement has at most 1,024 rows of at most 52 bytes: an
- * ISIN of 12, two letters or digits, two amounts of at most 16 digits, a sign, four semicolons and a line feed.
- * The four lines around them have less than 80 bytes.
+ * A buffer of so many bytes holds every statement: no statement has more. So with such a buffer a run is refused
+ * MARGIN_REFUSED_LENGTH only where its input has more than MARGIN_MOST_INPUT bytes (proved).
  */
 #define MARGIN_MOST_STATEMENT 65536
+
+/* The stack of a thread in which a call may be made. Every call takes 82 KiB of it, or less (measured). */
+#define MARGIN_STACK_BYTES 98304
 
 /* Why a run is refused. */
 enum {

@@ -4,9 +4,11 @@ set -euo pipefail
 cd "$(dirname "${BASH_SOURCE[0]}")/../.."
 
 (cd crates/margin_c && rt lib) >&2
+# of the C library it needs these two, and nothing else
+diff <(nm -u crates/margin_c/out/libmargin_c.a | awk '$1 == "U" { print $2 }' | sort -u) <(printf 'memmove\nmemset\n')
 mkdir -p out
 for name in margin_example margin_edges; do
-    cc -std=c11 -O2 -Wall -Wextra -Werror -Iinclude \
+    cc -std=c11 -O2 -Wall -Wextra -Werror -pthread -Iinclude \
         -o "out/$name" "examples/c/$name.c" crates/margin_c/out/libmargin_c.a
 done
 

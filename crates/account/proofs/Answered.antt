@@ -16,15 +16,15 @@ use Rattle.account.proofs.Joint.{joint_bound}
 use Rattle.account.proofs.Cents.{cents_bound}
 
 -- ---- a margin is given where no line has a fault
-abbrev faults : Setting → List Line → ℕ
+abbrev pub faults : Setting → List Line → ℕ
 faults s ls = sum_of (fault s) ls
 
-answered : (s : Setting) (all ls : List Line) → faults s ls ≡ 0 → answer_among s all ls ≡ given (margin s all) (rounded_amounts all)
+pub answered : (s : Setting) (all ls : List Line) → faults s ls ≡ 0 → answer_among s all ls ≡ given (margin s all) (rounded_amounts all)
 answered s all [] h = refl
 answered s all (l ∷ ls) h = cond-true (eqb (fault s l) 0) _ _ (eq-eqb (fault s l) 0 (omega arith)) ∙ answered s all ls (omega arith)
 
 -- and only there
-faultless : (s : Setting) (all ls : List Line) (m k : ℕ) → answer_among s all ls ≡ given m k → faults s ls ≡ 0
+pub faultless : (s : Setting) (all ls : List Line) (m k : ℕ) → answer_among s all ls ≡ given m k → faults s ls ≡ 0
 faultless s all [] m k e = refl
 faultless s all (l ∷ ls) m k e = go (eqb (fault s l) 0) refl e (faultless s all ls m k)
   where
@@ -32,7 +32,7 @@ faultless s all (l ∷ ls) m k e = go (eqb (fault s l) 0) refl e (faultless s al
     go true t e ih = omega (arith, eqb-true (fault s l) 0 t, ih e)
     go false t e ih = let z : ◌≡◌ {A = ℕ} 0 1 = cc in omega arith
 
-parts : (s : Setting) (ls : List Line) (m k : ℕ) → answer_among s ls ls ≡ given m k → (m ≡ margin s ls) × (k ≡ rounded_amounts ls)
+pub parts : (s : Setting) (ls : List Line) (m k : ℕ) → answer_among s ls ls ≡ given m k → (m ≡ margin s ls) × (k ≡ rounded_amounts ls)
 parts s ls m k e = same (margin s ls) (rounded_amounts ls) (sym e ∙ answered s ls ls (faultless s ls ls m k e))
   where
     same : (n j : ℕ) → given m k ≡ given n j → (m ≡ n) × (k ≡ j)

@@ -49,7 +49,7 @@ small b h =
     ⊎_elim (λ e. omega (arith, leb-true b 90 (and_parts (leb 65 b) (leb b 90) e).1)) (λ e. omega (arith, leb-true b 57 (and_parts (leb 48 b) (leb b 57) e).1))
     (or_cases (is_letter b) (is_digit b) h)
 
-isin_bytes : (bs : List ℕ) → is_isin bs ≡ true → Bytes 12 bs
+pub isin_bytes : (bs : List ℕ) → is_isin bs ≡ true → Bytes 12 bs
 isin_bytes bs h =
     let s = (and_parts (isin_shaped bs) (eqb (check_sum bs % 10) 0) h).0 in
     let a = and_parts (eqb (length bs) 12) (list_all is_letter (take 2 bs) && (list_all is_letter_or_digit (take 9 (drop 2 bs)) && list_all is_digit (take 1 (drop 11 bs)))) s in

@@ -1,6 +1,6 @@
 -- Calls that are answered as is due keep every bound: a line that is taken has a term of at most a year.
-use Rattle.std.proofs.Common.{◌≡◌, ℕ, ◌+◌, ◌≤◌, Bool, true, false, cond, not, eqb, ltb, leb, List, [], ◌∷◌, length, sym, refl, subst, arith}
-use Rattle.std.proofs.lemmas.Bool.{false≢true, and_parts, leb-true, ltb-false, cond_both}
+use Rattle.std.proofs.Common.{◌≡◌, ℕ, ◌≤◌, Bool, true, false, cond, not, eqb, ltb, List, [], ◌∷◌, length, sym, refl, subst, arith}
+use Rattle.std.proofs.lemmas.Bool.{false≢true, cond_both}
 use Rattle.quantities.specs.Dates.{term}
 use Rattle.quantities.specs.Ranges.{most_titles}
 use Rattle.netting.specs.Rules.{Netting}
@@ -19,6 +19,8 @@ use Rattle.account.specs.Answers.{is_well_formed, is_well_dated, titles_with, en
 use Rattle.account.specs.Joint.{EachTerm, WithinYear, MarginHolds}
 use Rattle.account.specs.History.{EachMarginHolds, HistoryLaw}
 use Rattle.account.proofs.Answered.{cents_law}
+use Rattle.account.proofs.Checks.{days_decide, enter_law}
+use Rattle.account.proofs.Standing.{stand_after}
 
 -- ---- the terms of trades, as lines come and go
 inserted_terms : (s : Setting) (P : ℕ → Type 0) (l : Line) (ls : List Line) → (is_trade l ≡ true → P (line_term s l)) → EachTerm s P ls → EachTerm s P (inserted_by line_rank l ls)
@@ -32,39 +34,14 @@ without_terms s P r (x ∷ xs) each =
     cond_both (eqb x.reference r) (without line_rank r xs) (x ∷ without line_rank r xs) (EachTerm s P) (λ e. without_terms s P r xs each.1) (λ e. (each.0, without_terms s P r xs each.1))
 
 pub dated_term : (today : ℕ) (b : Block) → is_well_dated today b ≡ true → is_same_block (block_name b) trade ≡ true → term today (date b) ≤ 364
-dated_term today (Trade d) w t = let p = leb-true d (today + 365) (and_parts (leb today d) (leb d (today + 365)) w).1 in omega arith
+dated_term today (Trade d) w t = let p = ((days_decide today (Trade d)).0 w).1 in omega arith
 dated_term today (Failed d) w t = absurd (false≢true t)
 dated_term today (Held d) w t = absurd (false≢true t)
 dated_term today (CashOnly d) w t = absurd (false≢true t)
 
--- ---- a line that is accepted has its form and its days, its reference is new, and titles and room suffice
-pub record AcceptedLine (today room : ℕ) (ls : List Line) (l : Line) : Type 0 where
-  pub formed : is_well_formed l ≡ true
-  pub new : has_rank line_rank l.reference ls ≡ false
-  pub dated : is_well_dated today l.block ≡ true
-  pub titles : titles_with l ls ≤ most_titles
-  pub room_left : ltb (length ls) room ≡ true
-
-never : {X : Type 0} {n r : ℕ} → accepted ≡ refused n r → X
-never e = absurd (let z : ◌≡◌ {A = ℕ} 0 1 = cc in omega arith)
-
-pub accepted_line : (today room : ℕ) (ls : List Line) (l : Line) → accepted ≡ enter_answer today room ls l → AcceptedLine today room ls l
-accepted_line today room ls l e =
-    let p = go (is_well_formed l) (has_rank line_rank l.reference ls) (is_well_dated today l.block) (ltb most_titles (titles_with l ls)) (ltb (length ls) room) e in
-    record { formed = p.0; new = p.1; dated = p.2; titles = ltb-false most_titles (titles_with l ls) p.3; room_left = p.4 }
-  where
-    go : (f h d t r : Bool) → accepted ≡ cond (not f) (refused 4 l.reference) (cond h (refused 6 l.reference) (cond (not d) (refused 7 l.reference) (cond t (refused 8 l.reference) (cond r accepted (refused 9 l.reference))))) →
-        (f ≡ true) × (h ≡ false) × (d ≡ true) × (t ≡ false) × (r ≡ true)
-    go true false true false true e = (refl, refl, refl, refl, refl)
-    go true false true false false e = never e
-    go true false true true r e = never e
-    go true false false t r e = never e
-    go true true d t r e = never e
-    go false h d t r e = never e
-
 -- ---- so the lines that stand keep their days
 due_year : (s : Setting) (room : ℕ) (ls : List Line) (c : Call) (a : Answer) → a ≡ due_answer s room ls c → WithinYear s ls → WithinYear s (lines_after c a ls)
-due_year s room ls (Enter l) accepted e y = inserted_terms s (λ t. t ≤ 364) l ls (dated_term s.today l.block (accepted_line s.today room ls l e).dated) y
+due_year s room ls (Enter l) accepted e y = inserted_terms s (λ t. t ≤ 364) l ls (dated_term s.today l.block ((days_decide s.today l.block).1 ((enter_law s.today room ls l).is_accepted.0 (sym e)).0.days)) y
 due_year s room ls (Withdraw r) accepted e y = without_terms s (λ t. t ≤ 364) r ls y
 due_year s room ls AskMargin accepted e y = y
 due_year s room ls c (refused n r) e y = y
@@ -110,6 +87,7 @@ pub history_law : HistoryLaw
 history_law s room es net rates d =
     record {
       each_due = d;
+      standing = stand_after s room es d;
       last_due = refl;
       each_holds = each_holds s room net rates [] es d tt;
       last_holds = cents_law s (lines_standing es) net rates (standing_year s room net rates [] es d tt);

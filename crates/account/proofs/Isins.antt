@@ -11,7 +11,7 @@ use Rattle.account.specs.declared.block_name.BlockName.TheVariants.{Trade as tra
 use Rattle.account.proofs.Sums.{one_if, sum_zero, sum_plus, sum_le, count, same_sum}
 use Rattle.account.proofs.Terms.{same_isin_decides}
 
-same_isin_itself : (i : Isin) → same_isin i i ≡ true
+pub same_isin_itself : (i : Isin) → same_isin i i ≡ true
 same_isin_itself i = (same_isin_decides i i).1 refl
 
 -- ---- how often an ISIN stands among ISINs

@@ -33,6 +33,10 @@ module _ {X : Type 0} (f : X → ℕ) where
   all_inserted P x [] p a = (p, tt)
   all_inserted P x (y ∷ ys) p a = cond_both (ltb (f x) (f y)) (x ∷ (y ∷ ys)) (y ∷ inserted_by f x ys) (All P) (λ e. (p, a)) (λ e. (a.0, all_inserted P x ys p a.1))
 
+  all_without : (P : X → Type 0) (k : ℕ) (xs : List X) → All P xs → All P (without f k xs)
+  all_without P k [] a = tt
+  all_without P k (x ∷ xs) a = cond_both (eqb (f x) k) (without f k xs) (x ∷ without f k xs) (All P) (λ e. all_without P k xs a.1) (λ e. (a.0, all_without P k xs a.1))
+
   -- ranks that rise weakly, and strictly
   abbrev pub Sorted : List X → Type 0
   Sorted [] = Unit {0}
@@ -62,6 +66,11 @@ module _ {X : Type 0} (f : X → ℕ) where
       (λ e. let l = ltb-true (f x) (f y) e in ((l, All-weaker (λ z. f y < f z) (λ z. f x < f z) (λ z h. omega arith) ys r.0), r))
       (λ e. (all_inserted (λ z. f y < f z) x ys (let l = ltb-false (f x) (f y) e in let ne = n.0 in omega (arith, l, ne)) r.0, rises_inserted x ys n.1 r.1))
 
+  pub rises_without : (k : ℕ) (xs : List X) → Rises xs → Rises (without f k xs)
+  rises_without k [] r = tt
+  rises_without k (x ∷ xs) r =
+      cond_both (eqb (f x) k) (without f k xs) (x ∷ without f k xs) Rises (λ e. rises_without k xs r.1) (λ e. (all_without (λ y. f x < f y) k xs r.0, rises_without k xs r.1))
+
   pub sorted_inserted : (x : X) (xs : List X) → Sorted xs → Sorted (inserted_by f x xs)
   sorted_inserted x [] s = (tt, tt)
   sorted_inserted x (y ∷ ys) s =
@@ -76,10 +85,6 @@ module _ {X : Type 0} (f : X → ℕ) where
       (λ (q : ltb (f x) (f y) ≡ true). rw (q, e) refl)
       (λ (q : ltb (f x) (f y) ≡ false). rw q (ap (λ zs. cond (eqb (f y) k) zs (y ∷ zs)) (gone_inserted k x ys e)))
       (cases_Bool (ltb (f x) (f y)))
-
-  all_without : (P : X → Type 0) (k : ℕ) (xs : List X) → All P xs → All P (without f k xs)
-  all_without P k [] a = tt
-  all_without P k (x ∷ xs) a = cond_both (eqb (f x) k) (without f k xs) (x ∷ without f k xs) (All P) (λ e. all_without P k xs a.1) (λ e. (a.0, all_without P k xs a.1))
 
   -- a record of a lower rank than all comes first
   comes_first : (x : X) (xs : List X) → All (λ y. f x < f y) xs → inserted_by f x xs ≡ x ∷ xs

@@ -1,7 +1,6 @@
 -- Sums over lists. Two lists in which each element stands as often have one sum.
-use Rattle.std.proofs.Common.{◌≡◌, ℕ, ◌+◌, ◌<◌, ◌≤◌, Bool, true, false, cond, ◌⊎◌, List, [], ◌∷◌, ◌++◌, length, get_or, drop, ℤ, pos, ◌+ℤ◌, ◌≤ℤ◌, sym, refl, ap, ◌∙◌, inl, inr, ⊎_elim, arith}
+use Rattle.std.proofs.Common.{◌≡◌, ℕ, ◌+◌, ◌≤◌, Bool, true, false, cond, ◌⊎◌, List, [], ◌∷◌, ◌++◌, ℤ, pos, ◌+ℤ◌, ◌≤ℤ◌, sym, refl, ap, ◌∙◌, inl, inr, ⊎_elim, arith}
 use Rattle.std.proofs.lemmas.Int.{ints}
-use Rattle.std.proofs.lemmas.List.{at_drop_more, at_drop_all}
 use Rattle.std.proofs.lemmas.Bool.{cond_both}
 use Rattle.account.specs.Lines.{keep, sum_of, sum_ℤ}
 
@@ -32,13 +31,6 @@ sum_first {X} f p x xs = go (p x)
     go : (b : Bool) → sum_of f (cond b (x ∷ keep p xs) (keep p xs)) ≡ cond b (f x) 0 + sum_of f (keep p xs)
     go true = refl
     go false = omega arith
-
--- the same of what a loop has still before it
-pub sum_turn : {X : Type 0} (f : X → ℕ) (p : X → Bool) (xs : List X) (i : ℕ) (d : X) → i < length xs → sum_of f (keep p (drop i xs)) ≡ cond (p (get_or xs i d)) (f (get_or xs i d)) 0 + sum_of f (keep p (drop (i + 1) xs))
-sum_turn f p xs i d h = at_drop_more (λ ys. sum_of f (keep p ys)) xs i d h ∙ sum_first f p (get_or xs i d) (drop (i + 1) xs)
-
-pub sum_end : {X : Type 0} (f : X → ℕ) (p : X → Bool) (xs : List X) (i : ℕ) → length xs ≤ i → sum_of f (keep p (drop i xs)) ≡ 0
-sum_end f p xs i h = at_drop_all (λ ys. sum_of f (keep p ys)) xs i h
 
 -- a sum of naturals, as one of integers
 pub sum_pos : {X : Type 0} (f : X → ℕ) (xs : List X) → sum_ℤ (λ x. pos (f x)) xs ≡ pos (sum_of f xs)

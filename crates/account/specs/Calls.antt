@@ -72,9 +72,3 @@ lines_standing_from ls (e ∷ es) = lines_standing_from (lines_after e.0 e.1 ls)
 -- the lines standing after calls, the oldest call first: before it there are none
 abbrev pub lines_standing : List Event → List Line
 lines_standing es = lines_standing_from [] es
-
--- calls beside the answers that were written for them
-abbrev pub events : List Call → List CallResult → List Event
-events [] answers = []
-events (c ∷ cs) [] = []
-events (c ∷ cs) (a ∷ answers) = (c, answer_of_call a) ∷ events cs answers

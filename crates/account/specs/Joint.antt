@@ -20,6 +20,10 @@ occurrences x ls = sum_of (λ l. if same_terms x l then 1 else 0) ls
 abbrev pub IsJointBook : List Line → List Line → List Line → Type 0
 IsJointBook a b c = (x : Line) → occurrences x c ≡ occurrences x a + occurrences x b
 
+-- two books have the same lines: each line, its reference left out, stands as often in both
+abbrev pub HaveSameLines : List Line → List Line → Type 0
+HaveSameLines a b = (x : Line) → occurrences x a ≡ occurrences x b
+
 -- P holds of the term of each trade
 abbrev pub EachTerm : Setting → (ℕ → Type 0) → List Line → Type 0
 EachTerm s P [] = ⊤
@@ -59,6 +63,12 @@ JointLaw =
     (s : Setting) (a b c : List Line) (ma ka mb kb : ℕ) → Netting s.charged → IsJointBook a b c →
     margin_answer s a ≡ given ma ka → margin_answer s b ≡ given mb kb →
     (mc : ℕ) × (kc : ℕ) × (margin_answer s c ≡ given mc kc) × (mc ≤ ma + mb)
+
+-- two books with the same lines are given the same margin, and as many rounded amounts
+abbrev pub SameLinesLaw : Type 0
+SameLinesLaw =
+    (s : Setting) (a b : List Line) (m k : ℕ) → Netting s.charged → HaveSameLines a b →
+    margin_answer s a ≡ given m k → margin_answer s b ≡ given m k
 
 -- what a margin that is given for lines keeps to: it is theirs, never below their exact margin,
 -- and above it by at most one cent for each rounded amount

@@ -6,7 +6,11 @@ pub mod Rows
 pub mod Margin
 pub mod Exact
 pub mod Calls
+pub mod Texts
 pub mod Answers
 pub mod Valid
+pub mod Slots
+pub mod Standing
+pub mod Checks
 pub mod Joint
 pub mod History

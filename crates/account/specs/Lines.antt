@@ -1,5 +1,5 @@
 -- Lines, and the questions asked of them.
-use Rattle.std.specs.Prelude.{◌≡◌, ℕ, ◌+◌, Bool, true, false, ◌&&◌, ◌||◌, List, [], ◌∷◌, ℤ, pos, ◌+ℤ◌, ◌==◌, if◌then◌else◌, ⊤}
+use Rattle.std.specs.Prelude.{◌≡◌, ℕ, ◌+◌, Bool, true, false, ◌&&◌, ◌||◌, List, [], ◌∷◌, replicate, ℤ, pos, ◌+ℤ◌, ◌==◌, if◌then◌else◌, ⊤}
 use Rattle.std.specs.Str.{bytes_eq}
 use Rattle.quantities.specs.declared.isin.Isin.{Isin}
 use Rattle.register.specs.Bytes.{Bytes}
@@ -12,6 +12,18 @@ use Rattle.account.specs.declared.block.Block.TheVariants.{Trade, Failed, Held, 
 use Rattle.account.specs.declared.block_name.BlockName.{BlockName}
 use Rattle.account.specs.declared.block_name.BlockName.TheVariants.{Trade as trade, Failed as failed, Held as held, CashOnly as cash_only}
 use Rattle.account.specs.declared.line.Line.{Line}
+
+-- what a free place for a line may hold: a reference under which no line stands, and nothing else
+abbrev pub free_line : Line
+free_line =
+    record {
+      reference = 0;
+      isin = record { bytes = replicate 12 0 };
+      side = Bought;
+      titles = 0;
+      cash = 0;
+      block = Trade 0;
+    }
 
 -- the block of a line, without its date
 abbrev pub block_name : Block → BlockName

@@ -1,4 +1,7 @@
 //! What a book is asked, and what it answers.
+ghost use Rattle.std.specs.Prelude.{Some};
+ghost use Rattle.account.specs.Texts.{call_text};
+
 use crate::line::Line;
 use crate::line_refusal::LineRefusal;
 use crate::reply::Reply;
@@ -17,6 +20,9 @@ pub enum Call {
 pub type Answer = Result<Reply, LineRefusal>;
 
 impl fmt::Display for Call {
+    ghost output = { λ call. Some (call_text call) };
+
+    #[tactic(auto, using(crate::proofs::Texts::blanks_behind))]
     fn fmt<W: fmt::Write>(&self, f: &mut fmt::Formatter<W>) -> fmt::Result {
         match *self {
             Call::Enter(line) => {

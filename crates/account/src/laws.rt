@@ -1,8 +1,9 @@
-//! The laws of a margin: they are the contract of a function that does nothing else.
+//! The laws of a margin and of a book's calls: the contract of a function that does nothing else.
 ghost use Rattle.account.specs.ByIsin.{ByIsinLaw};
 ghost use Rattle.account.specs.Lines.{IsinsLaw};
 ghost use Rattle.account.specs.Rows.{WorstLaw, NoLinesLaw};
-ghost use Rattle.account.specs.Joint.{JointBound, CentsBound, JointLaw, CentsLaw, GivenLaw};
+ghost use Rattle.account.specs.Joint.{JointBound, CentsBound, JointLaw, SameLinesLaw, CentsLaw, GivenLaw};
+ghost use Rattle.account.specs.Checks.{EnterLaw, WithdrawLaw, MarginAnswerLaw};
 ghost use Rattle.account.specs.History.{HistoryLaw};
 
 /// Each law is proved of the definitions.
@@ -22,9 +23,16 @@ pub fn laws_stand()
     ensures cents_bound { CentsBound }
     // The first bound, of the margins that books are answered.
     ensures joint_law { JointLaw }
+    // Books with the same lines are answered the same margin.
+    ensures same_lines_law { SameLinesLaw }
     // The second bound, of the margin that a book is answered, and of one that is given.
     ensures cents_law { CentsLaw }
     ensures given_law { GivenLaw }
-    // Both, over any list of calls that are answered as is due.
+    // When a line is entered, when it is withdrawn and when a margin is given, and else with which
+    // number the call is refused.
+    ensures enter_law { EnterLaw }
+    ensures withdraw_law { WithdrawLaw }
+    ensures margin_answer_law { MarginAnswerLaw }
+    // Both bounds, and which lines stand, over any list of calls that are answered as is due.
     ensures history_law { HistoryLaw }
 {}

@@ -15,3 +15,4 @@ pub mod row;
 pub mod scenario;
 pub mod scope;
 pub mod side;
+pub mod slot;

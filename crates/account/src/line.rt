@@ -1,5 +1,6 @@
 //! The lines of an account.
 ghost use Rattle.std.specs.Prelude.{◌≡◌};
+ghost use Rattle.account.specs.Lines.{free_line};
 
 use crate::block::Block;
 use crate::side::Side;
@@ -30,7 +31,7 @@ impl Record for Line {
 
 /// What a free place for a line may hold: a reference under which no line stands.
 impl Default for Line {
-    ghost is_default = { λ l. l.reference ≡ 0 };
+    ghost is_default = { λ l. l ≡ free_line };
 
     fn default() -> Line {
         Line {

@@ -1,5 +1,6 @@
 //! Why a line is refused.
-ghost use Rattle.std.specs.Prelude.{◌≡◌};
+ghost use Rattle.std.specs.Prelude.{◌≡◌, Some};
+ghost use Rattle.account.specs.Texts.{line_refusal_text};
 
 use quantities::refusal::Refusal;
 use std::fmt;
@@ -22,6 +23,8 @@ impl LineRefusal {
 }
 
 impl fmt::Display for LineRefusal {
+    ghost output = { λ refused. Some (line_refusal_text refused) };
+
     fn fmt<W: fmt::Write>(&self, f: &mut fmt::Formatter<W>) -> fmt::Result {
         let number = self.refusal.number();
         let reference = self.reference;

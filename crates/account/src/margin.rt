@@ -1,4 +1,7 @@
 //! A margin that is given.
+ghost use Rattle.std.specs.Prelude.{Some};
+ghost use Rattle.account.specs.Texts.{margin_text};
+
 use quantities::amount::Cents;
 use std::fmt;
 
@@ -10,6 +13,8 @@ pub struct Margin {
 }
 
 impl fmt::Display for Margin {
+    ghost output = { λ margin. Some (margin_text margin) };
+
     fn fmt<W: fmt::Write>(&self, f: &mut fmt::Formatter<W>) -> fmt::Result {
         let cents = self.cents;
         let count = self.rounded_amounts;

@@ -1,9 +1,7 @@
-pub mod Runs
 pub mod Entering
+pub mod BothOrders
 pub mod Withdrawing
 pub mod ValidLines
-pub mod TitlesAround
-pub mod Sides
-pub mod Both
 pub mod Working
 pub mod Promise
+pub mod OfIsin

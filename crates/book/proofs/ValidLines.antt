@@ -49,7 +49,7 @@ titles_without i k r (x ∷ xs) =
     (λ e. omega (arith, titles_first i k x xs, titles_without i k r xs))
     (λ e. omega (arith, titles_first i k x (without line_rank r xs), titles_first i k x xs, titles_without i k r xs))
 
-titles_admitted : (today : ℕ) (l : Line) (ls : List Line) → IsAdmissible today ls l → (i : Isin) (k : BlockName) → titles_of i k ls ≤ most_titles → titles_of i k (inserted_by line_rank l ls) ≤ most_titles
+pub titles_admitted : (today : ℕ) (l : Line) (ls : List Line) → IsAdmissible today ls l → (i : Isin) (k : BlockName) → titles_of i k ls ≤ most_titles → titles_of i k (inserted_by line_rank l ls) ≤ most_titles
 titles_admitted today l ls a i k h =
     ⊎_elim
     (λ e. let p = and_parts (same_isin l.isin i) (is_same_block (block_name l.block) k) e in

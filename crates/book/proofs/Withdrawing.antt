@@ -1,5 +1,5 @@
 -- A reference that is withdrawn: the line that stands under it goes, and nothing else.
-use Rattle.std.proofs.Common.{◌≡◌, ℕ, Bool, true, false, cond, eqb, List, [], ◌∷◌, is_some, Some, None, Err, Option, Result, sym, refl, ap, ◌∙◌}
+use Rattle.std.proofs.Common.{◌≡◌, ℕ, Bool, true, false, cond, eqb, List, [], ◌∷◌, is_some, Some, None, Option, Result, sym, refl, ap, ◌∙◌}
 use Rattle.std.specs.Option.{ok_or}
 use Rattle.std.specs.Result.{result_ok}
 use Rattle.std.proofs.lemmas.Bool.{false≢true, cond-false, ne_eqb}
@@ -20,14 +20,6 @@ without_absent r (l ∷ ls) h = go (eqb l.reference r) h (without_absent r ls)
     go : (b : Bool) → cond b true (has_rank line_rank r ls) ≡ false → (has_rank line_rank r ls ≡ false → without line_rank r ls ≡ ls) → cond b (without line_rank r ls) (l ∷ without line_rank r ls) ≡ l ∷ ls
     go true h e = absurd (false≢true (sym h))
     go false h e = ap (λ ms. l ∷ ms) (e h)
-
--- where no line is taken out, all stay
-pub none_removed : (r : ℕ) (ls after : List Line) (e : Refusal) → Removes line_rank r ls (Err e) after → after ≡ ls
-none_removed r ls after e o = o.leaves ∙ without_absent r ls (go (found_by line_rank r ls) (found_is line_rank r ls) o.answers)
-  where
-    go : (f : Option Line) → is_some f ≡ has_rank line_rank r ls → Err e ≡ ok_or f NotStanding → has_rank line_rank r ls ≡ false
-    go None h q = sym h
-    go (Some l) h q = cc
 
 module _ (r : ℕ) (ls after : List Line) (answer : Result Line Refusal) (some : r ≡ 0 → ⊥) (removes : Removes line_rank r ls answer after) where
   zero_not : eqb r 0 ≡ false

@@ -1,14 +1,16 @@
--- Calls worked one after another: what stands and what is due, call by call.
-use Rattle.std.proofs.Common.{◌≡◌, ℕ, zero, suc, ◌+◌, ◌<◌, ◌≤◌, List, [], ◌∷◌, ◌++◌, length, get_or, take, drop, set, ℤ, sym, refl, ap, ◌∙◌, subst, ap₂, arith}
-use Rattle.std.proofs.lemmas.List.{take_more, take_more_set, length-take-le, take_all, drop-set-lt}
+-- Calls taken one after another: what stands and what is due, slot by slot.
+use Rattle.std.proofs.Common.{◌≡◌, ℕ, ◌+◌, ◌<◌, List, [], ◌∷◌, ◌++◌, length, get_or, take, drop, set, ℤ, Some, sym, refl, ap, ◌∙◌, subst, ap₂, append_assoc, arith}
+use Rattle.std.proofs.lemmas.List.{map-append, take_more, take_more_set, drop-set-lt, drop-drop, get_or-drop}
 use Rattle.account.specs.declared.line.Line.{Line}
+use Rattle.account.specs.declared.slot.Slot.{Slot}
 use Rattle.account.specs.declared.call.Call.{Call}
 use Rattle.account.specs.Settings.{Setting}
-use Rattle.account.specs.Calls.{CallResult, answer_of_call, Event, lines_after, lines_standing_from, events}
+use Rattle.account.specs.Calls.{CallResult, answer_of_call, Event, lines_after, lines_standing_from}
 use Rattle.account.specs.Answers.{due_answer, EachDue}
+use Rattle.account.specs.Slots.{EachAnswered, events_in, events}
 use Rattle.valuation.specs.Setups.{setting_with}
 use Rattle.book.specs.declared.book.Book.{Book}
-use Rattle.book.specs.Books.{lines_of, room_for, market_of, KeepsMarketAndRoom, AnswersCall}
+use Rattle.book.specs.Books.{lines_of, room_for, market_of, AnswersCall, AnswersEachCall}
 
 -- ---- one more call at the end
 standing_push : (ls : List Line) (es : List Event) (e : Event) → lines_standing_from ls (es ++ e ∷ []) ≡ lines_after e.0 e.1 (lines_standing_from ls es)
@@ -19,56 +21,53 @@ due_push : (s : Setting) (room : ℕ) (ls : List Line) (es : List Event) (e : Ev
 due_push s room ls [] e d h = (h, tt)
 due_push s room ls (x ∷ es) e d h = (d.0, due_push s room (lines_after x.0 x.1 ls) es e d.1 h)
 
-events_push : (cs : List Call) (xs : List CallResult) (c : Call) (a : CallResult) → length cs ≡ length xs → events (cs ++ c ∷ []) (xs ++ a ∷ []) ≡ events cs xs ++ (c, answer_of_call a) ∷ []
-events_push [] [] c a e = refl
-events_push [] (x ∷ xs) c a e = absurd (omega arith)
-events_push (d ∷ cs) [] c a e = absurd (omega arith)
-events_push (d ∷ cs) (x ∷ xs) c a e = ap (λ es. (d, answer_of_call x) ∷ es) (events_push cs xs c a (omega arith))
+-- a call that is answered
+abbrev answered_slot : Call → CallResult → Slot
+answered_slot c a = record { call = c; answer = Some a }
 
--- ---- the turn of a loop over calls
-events_more : (cs : List Call) (xs : List CallResult) (i : ℕ) (d : Call) (a : CallResult) → i < length cs → i < length xs →
-    events (take (i + 1) cs) (take (i + 1) (set xs i a)) ≡ events (take i cs) (take i xs) ++ (get_or cs i d, answer_of_call a) ∷ []
-events_more cs xs i d a l m =
-    rw (take_more cs i d l, take_more_set xs i a m) (events_push (take i cs) (take i xs) (get_or cs i d) a (length-take-le i cs (omega arith) ∙ sym (length-take-le i xs (omega arith))))
+events_push : (slots : List Slot) (c : Call) (a : CallResult) → events (slots ++ answered_slot c a ∷ []) ≡ events slots ++ (c, answer_of_call a) ∷ []
+events_push [] c a = refl
+events_push (s ∷ slots) c a = ap (λ es. events_in s.call s.answer ++ es) (events_push slots c a) ∙ sym (append_assoc (events_in s.call s.answer) (events slots) ((c, answer_of_call a) ∷ []))
 
--- calls come to an end before their answers do
-events_all : (cs : List Call) (xs : List CallResult) (n : ℕ) → length cs ≤ n → length cs ≤ length xs → events (take n cs) (take n xs) ≡ events cs xs
-events_all [] xs n l m = ap (λ cs. events cs (take n xs)) (take_all n [] (omega arith))
-events_all (c ∷ cs) [] n l m = absurd (omega arith)
-events_all (c ∷ cs) (x ∷ xs) zero l m = absurd (omega arith)
-events_all (c ∷ cs) (x ∷ xs) (suc n) l m = ap (λ es. (c, answer_of_call x) ∷ es) (events_all cs xs n (omega arith) (omega arith))
-
--- what has come of calls before the i-th: what stands is what the answers written so far leave, and each is due
-pub record AnswersUpTo (s : Setting) (room : ℕ) (start : List Line) (calls : List Call) (before answers : List CallResult) (i : ℕ) (lines : List Line) : Type 0 where
-  pub stands : lines ≡ lines_standing_from start (events (take i calls) (take i answers))
-  pub each : EachDue s room start (events (take i calls) (take i answers))
-  pub kept : drop (length calls) answers ≡ drop (length calls) before
-
-module _ {s : Setting} {room : ℕ} {start : List Line} {calls : List Call} {before answers : List CallResult} {i : ℕ} {lines : List Line} (come : AnswersUpTo s room start calls before answers i lines) where
-  come_more : (d : Call) (a : CallResult) (after : List Line) → i < length calls → length calls ≤ length answers →
-      answer_of_call a ≡ due_answer s room lines (get_or calls i d) → after ≡ lines_after (get_or calls i d) (answer_of_call a) lines → AnswersUpTo s room start calls before (set answers i a) (i + 1) after
-  come_more d a after l m answer leaves =
-      let es : List Event = events (take i calls) (take i answers) in
-      let e : Event = (get_or calls i d, answer_of_call a) in
-      let more : events (take (i + 1) calls) (take (i + 1) (set answers i a)) ≡ es ++ e ∷ [] = events_more calls answers i d a l (omega arith) in
-      record {
-        stands = leaves ∙ ap (lines_after e.0 e.1) come.stands ∙ sym (standing_push start es e) ∙ ap (lines_standing_from start) (sym more);
-        each = subst (EachDue s room start) (sym more) (due_push s room start es e come.each (answer ∙ ap (λ ls. due_answer s room ls e.0) come.stands));
-        kept = drop-set-lt (length calls) answers i a l ∙ come.kept;
-      }
-
-  pub come_stands : length calls ≤ i → length calls ≤ length answers → lines ≡ lines_standing_from start (events calls answers)
-  come_stands l m = come.stands ∙ ap (lines_standing_from start) (events_all calls answers i l m)
-
-  pub come_each : length calls ≤ i → length calls ≤ length answers → EachDue s room start (events calls answers)
-  come_each l m = subst (EachDue s room start) (events_all calls answers i l m) come.each
+answered_push : (slots : List Slot) (c : Call) (a : CallResult) → EachAnswered slots → EachAnswered (slots ++ answered_slot c a ∷ [])
+answered_push [] c a h = (tt, tt)
+answered_push (s ∷ slots) c a h = (h.0, answered_push slots c a h.1)
 
 -- ---- a book that takes one more call
-module _ {reach : ℕ} {rate : ℕ → ℤ} {charged : ℕ → ℕ → ℕ} {start : Book} {calls : List Call} {before answers : List CallResult} {i : ℕ} {book after : Book} (frame : KeepsMarketAndRoom start book) (come : AnswersUpTo (setting_with reach rate charged (market_of start)) (room_for start) (lines_of start) calls before answers i (lines_of book)) where
-  pub taken_more : (d : Call) (a : CallResult) → AnswersCall (setting_with reach rate charged (market_of book)) (get_or calls i d) book a after → i < length calls → length calls ≤ length answers →
-      KeepsMarketAndRoom start after × AnswersUpTo (setting_with reach rate charged (market_of start)) (room_for start) (lines_of start) calls before (set answers i a) (i + 1) (lines_of after)
-  taken_more d a t l m = (
-    record { market = t.frame.market ∙ frame.market; room = t.frame.room ∙ frame.room },
-    come_more come d a (lines_of after) l m
-        (t.answers ∙ ap₂ (λ market n. due_answer (setting_with reach rate charged market) n (lines_of book) (get_or calls i d)) frame.market frame.room) t.leaves,
-  )
+module _ {reach : ℕ} {rate : ℕ → ℤ} {charged : ℕ → ℕ → ℕ} {start book after : Book} {slots answered : List Slot} {call : Call} {answer : CallResult} (t : AnswersEachCall (setting_with reach rate charged (market_of start)) slots start answered book) (one : AnswersCall (setting_with reach rate charged (market_of book)) call book answer after) where
+  taken_more : (x : Slot) → x.call ≡ call → AnswersEachCall (setting_with reach rate charged (market_of start)) (slots ++ x ∷ []) start (answered ++ answered_slot call answer ∷ []) after
+  taken_more x same =
+      let s : Setting = setting_with reach rate charged (market_of start) in
+      let es = events answered in
+      let e : Event = (call, answer_of_call answer) in
+      let due : e.1 ≡ due_answer s (room_for start) (lines_standing_from (lines_of start) es) call =
+      one.answers
+      ∙ ap₂ (λ market n. due_answer (setting_with reach rate charged market) n (lines_of book) call) t.frame.market t.frame.room
+      ∙ ap (λ ls. due_answer s (room_for start) ls call) t.leaves in
+      record {
+        calls = map-append (λ y. y.call) answered (answered_slot call answer ∷ []) ∙ ap₂ (λ cs c. cs ++ c ∷ []) t.calls (sym same) ∙ sym (map-append (λ y. y.call) slots (x ∷ []));
+        answers = answered_push answered call answer t.answers;
+        each = subst (EachDue s (room_for start) (lines_of start)) (sym (events_push answered call answer)) (due_push s (room_for start) (lines_of start) es e t.each due);
+        leaves = one.leaves ∙ ap (lines_after call e.1) t.leaves ∙ sym (standing_push (lines_of start) es e) ∙ ap (lines_standing_from (lines_of start)) (sym (events_push answered call answer));
+        frame = record { market = one.frame.market ∙ t.frame.market; room = one.frame.room ∙ t.frame.room; memory = one.frame.memory ∙ t.frame.memory };
+      }
+
+-- ---- the turn of a loop over slots
+-- what has come of the slots before the i-th: they are answered, and the others are as they were
+pub record AnsweredUpTo (s : Setting) (start : Book) (slots : List Slot) (i : ℕ) (book : Book) (now : List Slot) : Type 0 where
+  pub taken : AnswersEachCall s (take i slots) start (take i now) book
+  pub ahead : drop i now ≡ drop i slots
+
+module _ {reach : ℕ} {rate : ℕ → ℤ} {charged : ℕ → ℕ → ℕ} {start book after : Book} {slots now : List Slot} {i : ℕ} {answer : CallResult} (come : AnsweredUpTo (setting_with reach rate charged (market_of start)) start slots i book now) where
+  pub turn : (d : Slot) → i < length now → length now ≡ length slots →
+      AnswersCall (setting_with reach rate charged (market_of book)) (get_or now i d).call book answer after →
+      AnsweredUpTo (setting_with reach rate charged (market_of start)) start slots (i + 1) after (set now i (answered_slot (get_or now i d).call answer))
+  turn d l many one =
+      let call = (get_or now i d).call in
+      let x : Slot = answered_slot call answer in
+      let same : (get_or slots i d).call ≡ call =
+      ap (λ (y : Slot). y.call) (ap (λ k. get_or slots k d) (omega arith) ∙ sym (get_or-drop i slots 0 d) ∙ ap (λ ys. get_or ys 0 d) (sym come.ahead) ∙ get_or-drop i now 0 d ∙ ap (λ k. get_or now k d) (omega arith)) in
+      record {
+        taken = rw (take_more slots i d (omega arith), take_more_set now i x l) (taken_more come.taken one (get_or slots i d) same);
+        ahead = drop-set-lt (i + 1) now i x (omega arith) ∙ sym (drop-drop 1 i now) ∙ ap (drop 1) come.ahead ∙ drop-drop 1 i slots;
+      }

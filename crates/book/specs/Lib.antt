@@ -1,3 +1,4 @@
+pub mod Standing
 pub mod LineChecks
 pub mod Books
 pub mod Journals

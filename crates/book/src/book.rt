@@ -1,73 +1,59 @@
 //! The book.
 ghost use Rattle.std.specs.Prelude.{◌≡◌, ◌≤◌, min, [], length, IsTrue};
 ghost use Rattle.account.specs.Answers.{titles_of, margin_answer};
-ghost use Rattle.account.specs.ByIsin.{lines_by_isin, lines_in, isin_line_rank};
 ghost use Rattle.account.specs.Calls.{line_rank, answer_of_margin};
 ghost use Rattle.account.specs.declared.block_name.BlockName.{BlockName};
 ghost use Rattle.account.specs.Valid.{all_valid};
 ghost use Rattle.quantities.specs.Ranges.{most_titles};
 ghost use Rattle.quantities.specs.declared.isin.Isin.{Isin};
+ghost use Rattle.register.specs.Contents.{loan_of};
 ghost use Rattle.register.specs.Keys.{Ascends};
-ghost use Rattle.register.specs.Search.{SplitsAt};
 ghost use Rattle.valuation.specs.Statements.{States};
 
-use crate::check::{check_date, check_form, check_titles, is_first_of, is_last_of};
-use account::by_isin::ByIsin;
+use crate::check::{check_date, check_form, check_titles};
+use crate::standing::{Places, StandingLines};
 use account::call::{Answer, Call};
 use account::line::Line;
 use account::line_refusal::LineRefusal;
 use account::margin::Margin;
 use account::reply::Reply;
 use account::row::Row;
+use account::slot::Slot;
 use curve::Curve;
 use market::market::Market;
 use netting::NettingRule;
 use quantities::refusal::Refusal;
-use register::record::Record;
-use register::register::Register;
+use register::order::Place;
 use valuation::portfolio::Portfolio;
 use valuation::setup::Setup;
 use valuation::stated_margin::StatedMargin;
 
-/// The lines that stand, by reference and again by ISIN, over a market.
+/// The lines that stand, over a market.
 #[derive(Drop)]
 pub struct Book<'m, 'p, 'l> {
     market: &'m Market<'p>,
-    lines: Register<'l, Line>,
-    by_isin: Register<'l, ByIsin>,
-    ghost same_lines: { lines_in by_isin.records ≡ lines_by_isin lines.records },
-    ghost same_room: { by_isin.room ≡ lines.room },
+    lines: StandingLines<'l>,
     ghost valid: { IsTrue (all_valid market.now.today lines.records) },
     ghost titles: { (i : Isin) (k : BlockName) → titles_of i k lines.records ≤ most_titles },
 }
 
-// The places that a line would have among those that stand.
-#[derive(Clone, Copy)]
-struct Places {
-    by_reference: usize,
-    by_isin: usize,
-}
-
 impl<'m, 'p, 'l> Book<'m, 'p, 'l> {
-    ghost use Rattle.book.specs.Books.{lines_of, room_for, market_of, today_of, setting_for};
+    ghost use Rattle.book.specs.Books.{lines_of, room_for, market_of, today_of, memory_of, setting_for};
     ghost use Rattle.book.specs.Books.{EntersLine, WithdrawsLine, AnswersCall, AnswersEachCall};
+    ghost use Rattle.book.specs.Books.{GivesMemoryBack};
     ghost use Rattle.book.specs.LineChecks.{AdmitsLine};
 
-    /// A book in which no line stands, over a market and memory for lines by reference and by ISIN.
+    /// A book in which no line stands, over a market and memory for lines and for their places by
+    /// ISIN.
     /// It has room for as many lines as the smaller of the two memories, and for 65,535 at most.
-    pub fn new(market: &'m Market<'p>, places: &'l mut [Line], by_isin: &'l mut [ByIsin]) -> Self
+    pub fn new(market: &'m Market<'p>, places: &'l mut [Line], by_isin: &'l mut [Place]) -> Self
         ensures empty { lines_of result ≡ [] }
         ensures room { room_for result ≡ min (min (length places.old) (length by_isin.old)) 65535 }
         ensures market { market_of result ≡ market.now }
+        ensures memory { memory_of result ≡ (loan_of places.entry, loan_of by_isin.entry) }
     {
-        let room = places.len().min(by_isin.len());
-        let lines = Register::new(&mut places[..room]);
-        let by_isin = Register::new(&mut by_isin[..room]);
-        Book {
-            market,
-            lines,
-            by_isin,
-        }
+        let lines = StandingLines::new(places, by_isin);
+        Book { market, lines }
     }
 
     /// The lines that stand, by reference.
@@ -80,29 +66,19 @@ impl<'m, 'p, 'l> Book<'m, 'p, 'l> {
         self.lines.records()
     }
 
-    // The place of a line by ISIN, or else the place that it would have.
-    fn place_by_isin(&self, line: &Line) -> usize
-        ensures parts { SplitsAt (λ x. isin_line_rank x.line) (isin_line_rank line.now)
-            self.now.by_isin.records result }
-        ensures within { result ≤ length self.now.by_isin.records }
-    {
-        let (Ok(place) | Err(place)) = self.by_isin.place_of(ByIsin { line: *line }.key());
-        place
-    }
-
     // The checks of a line, in their order, and the places that it would have.
     fn admit(&self, line: &Line) -> Result<Places, Refusal>
         ensures { AdmitsLine (today_of self.now) (lines_of self.now) line.now result }
     {
-        let by_isin = self.place_by_isin(line);
-        let (before, after) = self.by_isin.records().split_at(by_isin);
-        let is_known = is_last_of(before, line.isin) || is_first_of(after, line.isin);
-        check_form(line, is_known)?;
+        let standing = self.lines.by_isin();
+        let by_isin = standing.rank_of(line);
+        let same_isin = standing.lines_of(line.isin, by_isin);
+        check_form(line, same_isin.len() > 0)?;
         let Err(by_reference) = self.lines.place_of(line.reference) else {
             return Err(Refusal::KeyPresent);
         };
         check_date(self.market.today(), line.block)?;
-        check_titles(before, after, line)?;
+        check_titles(&same_isin, line)?;
         Ok(Places {
             by_reference,
             by_isin,
@@ -116,8 +92,7 @@ impl<'m, 'p, 'l> Book<'m, 'p, 'l> {
         ensures { EntersLine line self.old result self.new }
     {
         let places = self.admit(&line)?;
-        self.lines.insert_near(places.by_reference, line)?;
-        self.by_isin.insert_near(places.by_isin, ByIsin { line })
+        self.lines.insert(line, places)
     }
 
     /// Takes out the line of a reference, and answers it.
@@ -128,9 +103,7 @@ impl<'m, 'p, 'l> Book<'m, 'p, 'l> {
         if reference == 0 {
             return Err(Refusal::Value);
         }
-        let line = self.lines.remove(reference)?;
-        self.by_isin.remove(ByIsin { line }.key())?;
-        Ok(line)
+        self.lines.remove(reference)
     }
 
     // The lines that stand, with what their margin is worked on.
@@ -139,7 +112,6 @@ impl<'m, 'p, 'l> Book<'m, 'p, 'l> {
         ensures curve { result.setup.curve.now ≡ curve.now }
         ensures rule { result.setup.rule.now ≡ rule.now }
         ensures lines { result.lines.now ≡ lines_of self.now }
-        ensures by_isin { result.by_isin.now ≡ self.now.by_isin.records }
     {
         let setup = Setup {
             market: &*self.market,
@@ -149,7 +121,7 @@ impl<'m, 'p, 'l> Book<'m, 'p, 'l> {
         Portfolio {
             setup,
             lines: self.lines.records(),
-            by_isin: self.by_isin.records(),
+            by_isin: self.lines.by_isin(),
         }
     }
 
@@ -198,21 +170,25 @@ impl<'m, 'p, 'l> Book<'m, 'p, 'l> {
         }
     }
 
-    // Does what each call asks, and writes the answers.
+    // Does what the calls of slots ask, one after another, and writes their answers.
     pub(crate) fn take_all<C: Curve, N: NettingRule>(
         &mut self,
         curve: &C,
         rule: &N,
-        calls: &[Call],
-        answers: &mut [Answer],
+        slots: &mut [Slot],
     )
-        requires { length calls.now ≤ length answers.old }
         ensures { let setting = setting_for C.reach C.rate N.charged curve.now rule.now self.old in
-            AnswersEachCall setting calls.now answers.old self.old answers.new self.new }
+            AnswersEachCall setting slots.old self.old slots.new self.new }
     {
-        // By its index: what `iter_mut` has written so far has no name in an invariant.
-        for (i, call) in calls.iter().enumerate() {
-            answers[i] = self.take(curve, rule, *call);
+        for slot in slots.iter_mut() {
+            slot.answer = Some(self.take(curve, rule, slot.call));
         }
+    }
+
+    /// The memory that was lent, with the lines that stand at its front, and their places by ISIN.
+    pub fn into_memory(self) -> (&'l mut [Line], &'l mut [Place])
+        ensures { GivesMemoryBack self.entry result.0 result.1 }
+    {
+        self.lines.into_memory()
     }
 }

@@ -4,5 +4,6 @@
 pub mod book;
 mod check;
 pub mod journal;
+mod standing;
 #[cfg(test)]
 mod tests;

@@ -2,8 +2,7 @@
 use crate::book::Book;
 use crate::journal::{Journal, work_calls};
 use account::block::Block;
-use account::by_isin::ByIsin;
-use account::call::{Answer, Call};
+use account::call::Call;
 use account::line::Line;
 use account::line_refusal::LineRefusal;
 use account::margin::Margin;
@@ -11,6 +10,7 @@ use account::reply::Reply;
 use account::row::Row;
 use account::scope::Scope;
 use account::side::Side;
+use account::slot::Slot;
 use curve::point::Point;
 use curve::point::points::Points;
 use curve::step::StepCurve;
@@ -83,7 +83,7 @@ fn lines_are_refused_in_order(rt: HostRuntime) -> Result<(), Fail> {
     let mut percentages = [Percentage::default(); 6];
     let market = Market::new(today()?, &mut prices, &mut percentages);
     let mut places = [Line::default(); 3];
-    let mut by_isin = [ByIsin::default(); 2];
+    let mut by_isin = [0; 2];
     let mut book = Book::new(&market, &mut places, &mut by_isin);
     let trade = Block::Trade(9_000);
     assert_eq!(rt; number_of(book.enter(bought(0, 1, 1, trade))), 4);
@@ -122,7 +122,7 @@ fn a_margin_with_its_rows(rt: HostRuntime) -> Result<(), Fail> {
     assert_eq!(rt; fill(&mut market, &mut points), Ok(()));
     let curve = StepCurve { points: &points };
     let mut places = [Line::default(); 2];
-    let mut by_isin = [ByIsin::default(); 2];
+    let mut by_isin = [0; 2];
     let mut book = Book::new(&market, &mut places, &mut by_isin);
     assert_eq!(rt; outcome(book.margin(&curve, &Net)), (0, 0));
     let trade = bought(1, 1_000, 101_000_000, Block::Trade(9_101));
@@ -144,7 +144,7 @@ fn a_margin_with_its_rows(rt: HostRuntime) -> Result<(), Fail> {
 }
 
 #[test]
-fn too_few_places_for_answers_and_no_price(rt: HostRuntime) -> Result<(), Fail> {
+fn each_slot_has_its_answer_and_the_lines_stand_in_front(rt: HostRuntime) -> Result<(), Fail> {
     let mut prices = [Price::default(); 1];
     let mut percentages = [Percentage::default(); 6];
     let market = Market::new(today()?, &mut prices, &mut percentages);
@@ -156,28 +156,24 @@ fn too_few_places_for_answers_and_no_price(rt: HostRuntime) -> Result<(), Fail> 
         curve: &curve,
         rule: &Net,
     };
-    let calls = [
-        Call::Enter(bought(5, 1, 1, Block::Trade(9_000))),
-        Call::AskMargin,
+    let later = bought(7, 1, 1, Block::Trade(9_000));
+    let earlier = bought(5, 1, 1, Block::Trade(9_000));
+    let mut slots = [
+        Slot::asked(Call::AskMargin),
+        Slot::asked(Call::Enter(later)),
+        Slot::asked(Call::Enter(earlier)),
+        Slot::asked(Call::Withdraw(6)),
     ];
-    let accepted: Answer = Ok(Reply::Accepted);
-    let mut one = [accepted; 1];
-    let mut two = [accepted; 2];
-    let mut places = [Line::default(); 1];
-    let mut by_isin = [ByIsin::default(); 1];
-    let mut short = Journal {
-        calls: &calls,
-        answers: &mut one,
+    let mut places = [Line::default(); 3];
+    let mut by_isin = [0; 2];
+    let mut journal = Journal {
+        slots: &mut slots,
         places: &mut places,
         by_isin: &mut by_isin,
     };
-    assert_eq!(rt; outcome(work_calls(&setup, &mut short)), (14, 0));
-    let mut long = Journal {
-        calls: &calls,
-        answers: &mut two,
-        places: &mut places,
-        by_isin: &mut by_isin,
-    };
-    assert_eq!(rt; outcome(work_calls(&setup, &mut long)), (10, 5));
+    assert_eq!(rt; outcome(work_calls(&setup, &mut journal)), (10, 5));
+    assert!(rt; slots[1].answer == Some(Ok(Reply::Accepted)));
+    assert!(rt; slots[3].answer == Some(Err(LineRefusal::of_line(6, Refusal::NotStanding))));
+    assert!(rt; places[..2] == [earlier, later]);
     Ok(())
 }

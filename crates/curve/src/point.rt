@@ -29,8 +29,13 @@ impl Point {
     }
 }
 
-/// What a free place may hold.
+/// What a free place may hold: the rate 0 at the term 0.
 impl Default for Point {
+    ghost use Rattle.std.specs.Prelude.{pos};
+    ghost use Rattle.curve.specs.Points.{point_parts};
+
+    ghost is_default = { λ p. point_parts p ≡ (0, pos 0) };
+
     fn default() -> Point {
         Point {
             term: 0,

@@ -1,13 +1,12 @@
 //! A day of two accounts: each is worked call by call, then both are put together.
 use crate::report::show_refusal;
 use account::block::Block;
-use account::by_isin::ByIsin;
-use account::call::{Answer, Call};
+use account::call::Call;
 use account::line::Line;
 use account::line_refusal::LineRefusal;
 use account::margin::Margin;
-use account::reply::Reply;
 use account::side::Side;
+use account::slot::Slot;
 use book::journal::{Journal, ThreeMargins, work_three_books};
 use curve::point::Point;
 use curve::point::points::Points;
@@ -33,52 +32,52 @@ const SHORT_BOND: Isin = Isin {
     bytes: *b"ES0000002024",
 };
 
-fn enter(side: Side, reference: u32, isin: Isin, titles: u32, cash: u64, block: Block) -> Call {
-    Call::Enter(Line {
+fn enter(side: Side, reference: u32, isin: Isin, titles: u32, cash: u64, block: Block) -> Slot {
+    Slot::asked(Call::Enter(Line {
         reference,
         isin,
         side,
         titles,
         cash,
         block,
-    })
+    }))
 }
 
-fn buy(reference: u32, isin: Isin, titles: u32, cash: u64, block: Block) -> Call {
+fn buy(reference: u32, isin: Isin, titles: u32, cash: u64, block: Block) -> Slot {
     enter(Side::Bought, reference, isin, titles, cash, block)
 }
 
-fn sell(reference: u32, isin: Isin, titles: u32, cash: u64, block: Block) -> Call {
+fn sell(reference: u32, isin: Isin, titles: u32, cash: u64, block: Block) -> Slot {
     enter(Side::Sold, reference, isin, titles, cash, block)
 }
 
 // The third line is refused for its date.
-fn first_calls() -> [Call; 7] {
+fn first_calls() -> [Slot; 7] {
     [
         buy(1, LONG_BOND, 1_000, 101_000_000, Block::Trade(9_101)),
         sell(2, LONG_BOND, 400, 40_400_000, Block::Trade(9_001)),
         buy(3, LONG_BOND, 50, 5_000_000, Block::Trade(9_366)),
-        Call::AskMargin,
+        Slot::asked(Call::AskMargin),
         buy(3, SHORT_BOND, 3, 300_000, Block::Failed(8_998)),
         buy(4, LONG_BOND, 0, 2_500, Block::CashOnly(9_000)),
-        Call::AskMargin,
+        Slot::asked(Call::AskMargin),
     ]
 }
 
 // The second line is entered by mistake and taken out again.
-fn second_calls() -> [Call; 6] {
+fn second_calls() -> [Slot; 6] {
     [
         sell(1, LONG_BOND, 700, 70_700_000, Block::Trade(9_101)),
         buy(2, SHORT_BOND, 5_000, 1, Block::Held(9_000)),
-        Call::AskMargin,
-        Call::Withdraw(2),
-        Call::Withdraw(2),
+        Slot::asked(Call::AskMargin),
+        Slot::asked(Call::Withdraw(2)),
+        Slot::asked(Call::Withdraw(2)),
         buy(3, SHORT_BOND, 7, 700_000, Block::Held(9_000)),
     ]
 }
 
 // The lines that stand in the two accounts, under references of their own.
-fn joint_calls() -> [Call; 6] {
+fn joint_calls() -> [Slot; 6] {
     [
         buy(11, LONG_BOND, 1_000, 101_000_000, Block::Trade(9_101)),
         sell(12, LONG_BOND, 400, 40_400_000, Block::Trade(9_001)),
@@ -90,10 +89,12 @@ fn joint_calls() -> [Call; 6] {
 }
 
 // A call with its answer, on a line of its own.
-fn show_call(rt: &impl Print, call: Call, answer: Answer) -> io::Result<()> {
-    match answer {
-        Ok(reply) => println!(rt; "  {call}{reply}"),
-        Err(refused) => println!(rt; "  {call}{refused}"),
+fn show_call(rt: &impl Print, slot: &Slot) -> io::Result<()> {
+    let call = slot.call;
+    match slot.answer {
+        Some(Ok(reply)) => println!(rt; "  {call}{reply}"),
+        Some(Err(refused)) => println!(rt; "  {call}{refused}"),
+        None => println!(rt; "  {call}not answered"),
     }
 }
 
@@ -121,46 +122,39 @@ fn show_margins(rt: &impl Print, margins: ThreeMargins) -> io::Result<()> {
     show_margin(rt, "both together", margins.third)
 }
 
-fn show_calls(rt: &impl Print, title: &str, calls: &[Call], answers: &[Answer]) -> io::Result<()> {
+fn show_calls(rt: &impl Print, title: &str, slots: &[Slot]) -> io::Result<()> {
     println!(rt; "{title}")?;
-    for (call, answer) in calls.iter().zip(answers.iter()) {
-        show_call(rt, *call, *answer)?;
+    for slot in slots {
+        show_call(rt, slot)?;
     }
     Ok(())
 }
 
 fn work_on(rt: &impl Print, setup: &Setup<'_, '_, StepCurve<'_, '_>, Net>) -> io::Result<()> {
-    let first = first_calls();
-    let second = second_calls();
-    let joint = joint_calls();
-    let accepted: Answer = Ok(Reply::Accepted);
-    let mut first_answers = [accepted; 7];
-    let mut second_answers = [accepted; 6];
-    let mut joint_answers = [accepted; 6];
+    let mut first = first_calls();
+    let mut second = second_calls();
+    let mut joint = joint_calls();
     let margins = work_three_books(
         setup,
         &mut Journal {
-            calls: &first,
-            answers: &mut first_answers,
+            slots: &mut first,
             places: &mut [Line::default(); 8],
-            by_isin: &mut [ByIsin::default(); 8],
+            by_isin: &mut [0; 8],
         },
         &mut Journal {
-            calls: &second,
-            answers: &mut second_answers,
+            slots: &mut second,
             places: &mut [Line::default(); 8],
-            by_isin: &mut [ByIsin::default(); 8],
+            by_isin: &mut [0; 8],
         },
         &mut Journal {
-            calls: &joint,
-            answers: &mut joint_answers,
+            slots: &mut joint,
             places: &mut [Line::default(); 8],
-            by_isin: &mut [ByIsin::default(); 8],
+            by_isin: &mut [0; 8],
         },
     );
-    show_calls(rt, "The first account", &first, &first_answers)?;
-    show_calls(rt, "The second account", &second, &second_answers)?;
-    show_calls(rt, "Both accounts together", &joint, &joint_answers)?;
+    show_calls(rt, "The first account", &first)?;
+    show_calls(rt, "The second account", &second)?;
+    show_calls(rt, "Both accounts together", &joint)?;
     show_margins(rt, margins)
 }
 

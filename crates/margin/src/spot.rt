@@ -43,11 +43,11 @@ impl Sheet {
     /// The names that its second line needs.
     pub(crate) fn needed(self) -> &'static [&'static [u8]] {
         match self {
-            Sheet::Day => DayRows::NAMES,
-            Sheet::Percentages => PercentageRows::NAMES,
-            Sheet::Curve => PointRows::NAMES,
-            Sheet::Prices => PriceRows::NAMES,
-            Sheet::Positions => PositionRows::NAMES,
+            Sheet::Day => DayRows::names(),
+            Sheet::Percentages => PercentageRows::names(),
+            Sheet::Curve => PointRows::names(),
+            Sheet::Prices => PriceRows::names(),
+            Sheet::Positions => PositionRows::names(),
         }
     }
 }

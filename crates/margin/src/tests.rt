@@ -1,10 +1,12 @@
-//! Whole runs, and refusals with their words.
+//! Whole runs, and calls of the program.
+mod calls;
+mod large;
+mod memory;
 mod sheets;
 
-use crate::explain::Explanation;
 use run::refusal::RunRefusal;
-use run::run::{MOST_BYTES, run};
-use sheets::{EDITS, Edit, RUN, SHUFFLED, STATEMENT};
+use run::run::run;
+use sheets::{RUN, SHUFFLED, STATEMENT};
 use std::process::Abort;
 use std::test::Fail;
 
@@ -65,39 +67,6 @@ fn a_buffer_has_room_from_the_length_on(rt: HostRuntime) {
     }
     assert_eq!(rt; run(RUN.as_bytes(), &mut buffer), Ok(132));
     assert!(rt; buffer.as_slice() == STATEMENT.as_bytes());
-}
-
-#[test]
-fn each_refusal_has_its_numbers_and_words(rt: HostRuntime) -> Result<(), Fail> {
-    for Edit {
-        old,
-        new,
-        refused,
-        words,
-    } in EDITS {
-        let sheets = RUN.replacen(rt.alloc(), old, new, 1)?;
-        let refusal = refusal_of(&rt, sheets.as_bytes()).ok_or("no refusal")?;
-        let explanation = Explanation {
-            sheets: sheets.as_bytes(),
-            refusal,
-        };
-        let printed = format!(in rt.alloc(); "{refusal}")?;
-        let explained = format!(in rt.alloc(); "{explanation}")?;
-        assert_eq!(rt; printed.as_str(), refused);
-        assert_eq!(rt; explained.as_str(), words);
-    }
-    Ok(())
-}
-
-#[test]
-fn a_run_has_at_most_65_536_bytes(rt: HostRuntime) -> Result<(), Fail> {
-    let mut sheets = [b'x'; 65_537];
-    sheets[..RUN.len()].copy_from_slice(RUN.as_bytes());
-    let whole = refusal_of(&rt, &sheets).ok_or("no refusal")?;
-    assert_eq!(rt; (whole.number(), whole.layer()), (14, 0));
-    let shorter = refusal_of(&rt, &sheets[..MOST_BYTES]).ok_or("no refusal")?;
-    assert_eq!(rt; (shorter.number(), shorter.line()), (5, 26));
-    Ok(())
 }
 
 #[test]

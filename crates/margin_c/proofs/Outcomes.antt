@@ -9,6 +9,10 @@ pub refused_is : (o : Outcome (List ℕ)) (e : RunRefusal) (before after : List 
 refused_is (Ok text) e before after h = absurd h
 refused_is (Err r) e before after h = ap Err (sym h.0)
 
+pub refused_keeps : (o : Outcome (List ℕ)) (e : RunRefusal) (before after : List ℕ) → WritesText o (Err e) before after → after ≡ before
+refused_keeps (Ok text) e before after h = absurd h
+refused_keeps (Err r) e before after h = h.1
+
 -- a statement of that length at the front of the buffer
 pub record Given (o : Outcome (List ℕ)) (n : ℕ) (before after : List ℕ) : Type 0 where
   pub text : List ℕ

@@ -6,6 +6,7 @@ ghost use Rattle.market.specs.Records.{isin_rank, price_rank, percentage_rank};
 ghost use Rattle.register.specs.Changes.{insert_answer, insert_after};
 ghost use Rattle.register.specs.Contents.{room_in};
 ghost use Rattle.register.specs.Keys.{Ascends, found_by};
+ghost use Rattle.register.specs.Search.{guess_after};
 
 use crate::day::Day;
 use crate::percentage::Percentage;
@@ -117,11 +118,14 @@ impl<'a> Market<'a> {
         self.percentages.insert(percentage)
     }
 
-    /// The price of an ISIN.
-    pub fn price_of(&self, isin: Isin) -> Option<Price>
-        ensures { result ≡ found_by price_rank (isin_rank isin) self.now.prices }
+    /// The price of an ISIN. A guess of its place is looked at first, and moves behind the price
+    /// that is found.
+    pub fn price_of(&self, guess: &mut usize, isin: Isin) -> Option<Price>
+        ensures found { result ≡ found_by price_rank (isin_rank isin) self.now.prices }
+        ensures moved { guess.new
+            ≡ guess_after price_rank (isin_rank isin) self.now.prices guess.old }
     {
-        self.prices.find(isin.bytes).copied()
+        self.prices.find_near(guess, isin.bytes).copied()
     }
 
     /// The percentage for a residual life in days, which is that of its tranche.

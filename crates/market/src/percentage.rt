@@ -32,8 +32,12 @@ impl Percentage {
     }
 }
 
-/// What a free place may hold.
+/// What a free place may hold: nothing in a hundred, of the first tranche.
 impl Default for Percentage {
+    ghost use Rattle.market.specs.Records.{percentage_parts};
+
+    ghost is_default = { λ p. percentage_parts p ≡ (1, 0) };
+
     fn default() -> Percentage {
         Percentage {
             tranche: Tranche::UpToOneYear,

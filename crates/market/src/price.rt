@@ -39,6 +39,13 @@ impl Price {
 
 /// What a free place may hold: the lowest price, of an ISIN that stands for no bond.
 impl Default for Price {
+    ghost use Rattle.std.specs.Prelude.{codes};
+    ghost use Rattle.quantities.specs.Ranges.{lowest_price};
+    ghost use Rattle.market.specs.Records.{price_parts};
+
+    ghost is_default = { λ p.
+        price_parts p ≡ (record { bytes = codes "XX0000000002" }, lowest_price, 0) };
+
     fn default() -> Price {
         Price {
             isin: Isin {

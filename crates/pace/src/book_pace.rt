@@ -1,7 +1,6 @@
 //! How long a book takes to enter its lines and to give its margin.
 use crate::book_sample::{LINES_PER_ISIN, sample_line};
 use crate::sample::{TODAY, sample_isin};
-use account::by_isin::ByIsin;
 use account::line::Line;
 use book::book::Book;
 use curve::point::Point;
@@ -13,6 +12,7 @@ use market::percentage::Percentage;
 use market::price::Price;
 use netting::Net;
 use quantities::refusal::Refusal;
+use register::order::Place;
 use std::io;
 use std::time::{Duration, Instant};
 
@@ -63,7 +63,7 @@ fn time_round(
     points: &Points<'_>,
     sample: &[Line],
     places: &mut [Line],
-    by_isin: &mut [ByIsin],
+    by_isin: &mut [Place],
 ) -> io::Result<Result<(Duration, Duration), Refusal>> {
     let curve = StepCurve { points };
     let mut book = Book::new(market, places, by_isin);
@@ -92,7 +92,7 @@ fn least_pace(
         .map(|place| sample_line(place, lines))
         .collect(alloc)?;
     let mut places: Vec<Line> = sample.iter().map(|_| Line::default()).collect(alloc)?;
-    let mut by_isin: Vec<ByIsin> = sample.iter().map(|_| ByIsin::default()).collect(alloc)?;
+    let mut by_isin: Vec<Place> = sample.iter().map(|_| 0).collect(alloc)?;
     let mut least = BookPace {
         lines,
         entering: Duration::MAX,

@@ -1,12 +1,12 @@
 -- The check sum of an ISIN, taken byte by byte from the right.
-use Rattle.std.proofs.Common.{◌≡◌, ℕ, ◌+◌, ◌-◌, ◌/◌, ◌%◌, ◌<◌, ◌≤◌, Bool, true, false, cond, not, List, [], ◌∷◌, ◌++◌, reverse, length, get_or, drop, map, flat_map, zero-add, leb, leb-true, sym, refl, ap, ◌∙◌, arith}
+use Rattle.std.proofs.Common.{◌≡◌, ℕ, ◌+◌, ◌-◌, ◌/◌, ◌%◌, ◌<◌, ◌≤◌, Bool, true, false, cond, not, List, [], ◌∷◌, ◌++◌, reverse, length, get_or, drop, map, flat_map, zero-add, leb, leb-true, sym, refl, ap, ◌∙◌, ⊎_elim, arith}
 use Rattle.std.specs.Bool.{beq}
 use Rattle.std.specs.List.{range_with_len}
-use Rattle.std.proofs.lemmas.Bool.{and_parts}
+use Rattle.std.proofs.lemmas.Bool.{and_parts, or_cases, cond-true}
 use Rattle.std.proofs.lemmas.List.FromFn.{get_or-map-range_with_len}
 use Rattle.std.proofs.lemmas.List.{drop_more, reverse-append, append-nil}
 use Rattle.std.proofs.lemmas.List.Concat.{flat_map-append}
-use Rattle.quantities.specs.Isins.{is_digit, digits_of, with_seconds_doubled, digit_sum, check_sum}
+use Rattle.quantities.specs.Isins.{is_digit, is_letter, is_letter_or_digit, digits_of, with_seconds_doubled, digit_sum, check_sum}
 
 -- what numbers add where every second one is doubled, beginning with the first or with the second
 abbrev pub weights : Bool → List ℕ → ℕ
@@ -68,29 +68,28 @@ byte_more bs i b sum w total t h e inv =
     ap (λ xs. weights t (from_right xs)) (drop_more bs i b h.0) ∙ ap (λ x. weights t (digits x ++ from_right (drop (i + 1) bs))) (sym h.1) in
     omega (arith, left, apart (is_digit b) t (b - 48) ((b - 55) / 10) ((b - 55) % 10) (from_right (drop (i + 1) bs)))
 
--- a letter's two digits, and those of a digit with a 0 before it
-abbrev pub of_number : Bool → ℕ → ℕ
-of_number t n = weights t ((n % 10) ∷ ((n / 10) ∷ []))
+-- what a byte behind '0' adds, where it is a digit or a letter
+abbrev pub of_byte : Bool → ℕ → ℕ
+of_byte t n = cond (is_letter_or_digit (48 + n)) (weights t (digits (48 + n))) 0
 
 abbrev pub tables : List (List ℕ)
-tables = map (of_number false) (range_with_len 0 36) ∷ (map (of_number true) (range_with_len 0 36) ∷ [])
+tables = map (of_byte false) (range_with_len 0 43) ∷ (map (of_byte true) (range_with_len 0 43) ∷ [])
 
-pub tabled : (t : Bool) (k n : ℕ) → (t ≡ true → k ≡ 1) → (t ≡ false → k ≡ 0) → n < 36 → get_or (get_or tables k []) n 0 ≡ of_number t n
-tabled true k n one none h = rw (one refl) (get_or-map-range_with_len (of_number true) 0 36 n n 0 h (zero-add n))
-tabled false k n one none h = rw (none refl) (get_or-map-range_with_len (of_number false) 0 36 n n 0 h (zero-add n))
+tabled : (t : Bool) (k n : ℕ) → (t ≡ true → k ≡ 1) → (t ≡ false → k ≡ 0) → n < 43 → get_or (get_or tables k []) n 0 ≡ of_byte t n
+tabled true k n one none h = rw (one refl) (get_or-map-range_with_len (of_byte true) 0 43 n n 0 h (zero-add n))
+tabled false k n one none h = rw (none refl) (get_or-map-range_with_len (of_byte false) 0 43 n n 0 h (zero-add n))
 
-digit_alone : (t : Bool) (n : ℕ) → n < 10 → of_number t n ≡ weights t (n ∷ [])
-digit_alone true n h = omega arith
-digit_alone false n h = omega arith
+known_within : (b : ℕ) → is_letter_or_digit b ≡ true → (48 ≤ b) × (b < 91)
+known_within b h =
+    ⊎_elim
+    (λ e. let p = and_parts (leb 65 b) (leb b 90) e in (omega (arith, leb-true 65 b p.0), omega (arith, leb-true b 90 p.1)))
+    (λ e. let p = and_parts (leb 48 b) (leb b 57) e in (leb-true 48 b p.0, omega (arith, leb-true b 57 p.1)))
+    (or_cases (is_letter b) (is_digit b) h)
 
-spelled : (t d : Bool) (u v n : ℕ) → (d ≡ true → u < 10) → n ≡ cond d u v → of_number t n ≡ weights t (reverse (cond d (u ∷ []) (v / 10 ∷ (v % 10 ∷ []))))
-spelled t true u v n h e = rw e (digit_alone t u (h refl))
-spelled t false u v n h e = rw e refl
-
-digit_small : (b : ℕ) → is_digit b ≡ true → b - 48 < 10
-digit_small b h =
-    let k : b ≤ 57 = leb-true b 57 (and_parts (leb 48 b) (leb b 57) h).1 in
-    omega arith
-
-pub of_byte : (t : Bool) (b n : ℕ) → n ≡ cond (is_digit b) (b - 48) (b - 55) → of_number t n ≡ weights t (digits b)
-of_byte t b n e = spelled t (is_digit b) (b - 48) (b - 55) n (digit_small b) e
+pub weight_tabled : (t : Bool) (k b : ℕ) → (t ≡ true → k ≡ 1) → (t ≡ false → k ≡ 0) → is_letter_or_digit b ≡ true → get_or (get_or tables k []) (b - 48) 0 ≡ weights t (digits b)
+weight_tabled t k b one none known =
+    let within = known_within b known in
+    let low = within.0 in
+    let high = within.1 in
+    let e : 48 + (b - 48) ≡ b = omega arith in
+    tabled t k (b - 48) one none (omega arith) ∙ (ap (λ c. cond (is_letter_or_digit c) (weights t (digits c)) 0) e ∙ cond-true (is_letter_or_digit b) _ _ known)

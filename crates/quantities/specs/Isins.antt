@@ -1,7 +1,8 @@
 -- The ISIN of ISO 6166.
 -- Cells hold bytes: 48 to 57 are the digits 0 to 9, 65 to 90 the letters A to Z.
 use Rattle.std.specs.Prelude.{ℕ, ◌+◌, ◌-◌, ◌*◌, ◌/◌, ◌%◌, Bool, ◌&&◌, ◌||◌, if◌then◌else◌, List, [], ◌∷◌, reverse, length, take, drop, Ok, Err, Result, ◌==◌, nat_le}
-use Rattle.std.specs.List.{list_all}
+use Rattle.std.specs.Char.{encode_utf8}
+use Rattle.std.specs.List.{list_all, flat_map}
 use Rattle.quantities.specs.declared.refusal.Refusal.TheVariants.{Value}
 use Rattle.quantities.specs.Refusals.{number}
 
@@ -50,3 +51,7 @@ is_isin cell = isin_shaped cell && check_sum cell % 10 == 0
 -- a cell that holds an ISIN, refused elsewhere
 abbrev pub isin_answer : List ℕ → Result (List ℕ) ℕ
 isin_answer cell = if is_isin cell then Ok cell else Err (number Value)
+
+-- an ISIN as it is printed: the characters of its bytes
+abbrev pub isin_text : List ℕ → List ℕ
+isin_text bytes = flat_map encode_utf8 bytes

@@ -1,11 +1,11 @@
 //! The ISIN of ISO 6166: two letters, nine letters or digits, and a check digit.
-ghost use Rattle.std.specs.Prelude.{◌≡◌, ◌-◌, ◌<◌, ◌≤◌, if◌then◌else◌, IsTrue, [], ◌∷◌, reverse, take, drop, ℕ, length, slice_index, bytes_eq};
+ghost use Rattle.std.specs.Prelude.{◌≡◌, ◌-◌, ◌<◌, ◌≤◌, if◌then◌else◌, IsTrue, [], ◌∷◌, reverse, take, drop, ℕ, length, slice_index, bytes_eq, Some};
 ghost use Rattle.std.specs.Cmp.{on_equiv, on_per, partial_equiv_from_equiv};
 ghost use Rattle.std.specs.Cmp.Lexicographic.{nat_list_eq_equiv};
 ghost use Rattle.std.specs.Int.{w32, w64, from_le_bytes};
 ghost use Rattle.std.specs.List.{list_all};
 ghost use Rattle.quantities.specs.RangeChecks.{numbers_of};
-ghost use Rattle.quantities.specs.Isins.{is_digit, is_letter_or_digit, isin_shaped, digits_of, with_seconds_doubled, digit_sum, check_sum, is_isin, isin_answer};
+ghost use Rattle.quantities.specs.Isins.{is_digit, is_letter_or_digit, isin_shaped, digits_of, with_seconds_doubled, digit_sum, check_sum, is_isin, isin_answer, isin_text};
 
 use crate::refusal::Refusal;
 use std::fmt;
@@ -13,19 +13,16 @@ use std::fmt;
 /// How many bytes an ISIN has.
 pub const LENGTH: usize = 12;
 
-// A letter's byte less its number: A is 10.
-const BEFORE_LETTERS: u8 = b'A' - 10;
-
-// What the digits of 0 to 35 add to the check sum: first where the last digit is not doubled,
-// then where it is.
-const WEIGHTS: [[u8; 36]; 2] = [
+// What the bytes '0' to 'Z' add to the check sum: first where the last digit is not doubled, then
+// where it is. An ISIN has none of the seven bytes between the digits and the letters.
+const WEIGHTS: [[u8; 43]; 2] = [
     [
-        0, 1, 2, 3, 4, 5, 6, 7, 8, 9, 2, 3, 4, 5, 6, 7, 8, 9, 10, 11, 4, 5, 6, 7, 8, 9, 10, 11, 12,
-        13, 6, 7, 8, 9, 10, 11,
+        0, 1, 2, 3, 4, 5, 6, 7, 8, 9, 0, 0, 0, 0, 0, 0, 0, 2, 3, 4, 5, 6, 7, 8, 9, 10, 11, 4, 5, 6,
+        7, 8, 9, 10, 11, 12, 13, 6, 7, 8, 9, 10, 11,
     ],
     [
-        0, 2, 4, 6, 8, 1, 3, 5, 7, 9, 1, 3, 5, 7, 9, 2, 4, 6, 8, 10, 2, 4, 6, 8, 10, 3, 5, 7, 9,
-        11, 3, 5, 7, 9, 11, 4,
+        0, 2, 4, 6, 8, 1, 3, 5, 7, 9, 0, 0, 0, 0, 0, 0, 0, 1, 3, 5, 7, 9, 2, 4, 6, 8, 10, 2, 4, 6,
+        8, 10, 3, 5, 7, 9, 11, 3, 5, 7, 9, 11, 4,
     ],
 ];
 
@@ -85,19 +82,6 @@ fn is_one_digit(byte: u8) -> bool
     byte <= b'9'
 }
 
-// The number that a digit or a letter stands for.
-fn number(byte: u8) -> u8
-    requires { IsTrue (is_letter_or_digit byte) }
-    ensures is { result ≡ (if is_digit byte then byte - 48 else byte - 55) }
-    ensures small { result < 36 }
-{
-    if is_one_digit(byte) {
-        byte - b'0'
-    } else {
-        byte - BEFORE_LETTERS
-    }
-}
-
 // What a digit or a letter adds to the check sum, where its last digit is doubled or not.
 fn weight(byte: u8, doubled: bool) -> u32
     requires { IsTrue (is_letter_or_digit byte) }
@@ -105,7 +89,7 @@ fn weight(byte: u8, doubled: bool) -> u32
         result ≡ digit_sum (with_seconds_doubled (if doubled then 0 ∷ digits else digits)) }
     ensures small { result ≤ 255 }
 {
-    u32::from(WEIGHTS[usize::from(doubled)][usize::from(number(byte))])
+    u32::from(WEIGHTS[usize::from(doubled)][usize::from(byte - b'0')])
 }
 
 fn check_sum(bytes: &[u8; LENGTH]) -> u32
@@ -149,7 +133,10 @@ impl TryFrom<&[u8]> for Isin {
     }
 }
 
+/// The characters of its bytes.
 impl fmt::Display for Isin {
+    ghost output = { λ isin. Some (isin_text isin.bytes) };
+
     fn fmt<W: fmt::Write>(&self, f: &mut fmt::Formatter<W>) -> fmt::Result {
         for &byte in &self.bytes {
             f.write_char(char::from(byte))?;

@@ -1,6 +1,6 @@
 //! Why a call refuses.
-ghost use Rattle.std.specs.Prelude.{◌≡◌};
-ghost use Rattle.quantities.specs.Refusals.{number, TellsApart};
+ghost use Rattle.std.specs.Prelude.{◌≡◌, Some};
+ghost use Rattle.quantities.specs.Refusals.{number, words, TellsApart};
 
 use std::error::Error;
 use std::fmt;
@@ -50,6 +50,8 @@ impl Refusal {
 }
 
 impl fmt::Display for Refusal {
+    ghost output = { λ r. Some (words r) };
+
     fn fmt<W: fmt::Write>(&self, f: &mut fmt::Formatter<W>) -> fmt::Result {
         f.write_str(match self {
             Refusal::Mark => "the first line lacks the awaited mark or a version that is read",

@@ -176,7 +176,7 @@ module _ {X : Type 0} (f : X → ℕ) where
       (cases_lt i p)
 
   -- the two parts of the records at a place
-  parted : (n : ℕ) (xs : List X) (p : ℕ) → p ≤ length xs → ((k : ℕ) (d : X) → k < p → f (get_or xs k d) < n) → ((k : ℕ) (d : X) → p ≤ k → k < length xs → n ≤ f (get_or xs k d)) → SplitsAt f n xs p
+  pub parted : (n : ℕ) (xs : List X) (p : ℕ) → p ≤ length xs → ((k : ℕ) (d : X) → k < p → f (get_or xs k d) < n) → ((k : ℕ) (d : X) → p ≤ k → k < length xs → n ≤ f (get_or xs k d)) → SplitsAt f n xs p
   parted n [] zero l low high = record { below = refl; from = refl }
   parted n [] (suc p) l low high = absurd (omega arith)
   parted n (x ∷ xs) zero l low high =

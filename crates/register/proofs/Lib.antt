@@ -4,3 +4,4 @@ pub mod Changes
 pub mod Compared
 pub mod Found
 pub mod Shifted
+pub mod Places

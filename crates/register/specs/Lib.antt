@@ -3,3 +3,4 @@ pub mod Bytes
 pub mod Contents
 pub mod Changes
 pub mod Search
+pub mod Places

@@ -1,5 +1,5 @@
 -- What a search for a rank n among records that ascend has shown.
-use Rattle.std.specs.Prelude.{◌≡◌, ℕ, ◌-◌, ◌<◌, ◌≤◌, List, length, take, drop, Some, None, Ok, Err, Result, slice_index_or, IsTrue}
+use Rattle.std.specs.Prelude.{◌≡◌, ℕ, if◌then◌else◌, ◌+◌, ◌-◌, ◌<◌, ◌≤◌, List, length, take, drop, Some, None, Ok, Err, Result, slice_index_or, IsTrue}
 use Rattle.std.specs.Bool.{IsFalse}
 use Rattle.std.specs.List.{insert, remove}
 use Rattle.register.specs.Keys.{Ascends, found_by, has_rank, inserted_by, without, below_rank, from_rank}
@@ -30,6 +30,11 @@ pub record Misses {X : Type 0} (f : X → ℕ) (n : ℕ) (xs : List X) (p : ℕ)
 abbrev pub IsPlace : {X : Type 0} → (X → ℕ) → ℕ → List X → Result ℕ ℕ → Type 0
 IsPlace f n xs (Ok p) = (p < length xs) × Hits f n xs p
 IsPlace f n xs (Err p) = (p ≤ length xs) × Misses f n xs p
+
+-- a guess of a place, after a search for rank n: the place behind the record that is found, and
+-- where there is none as it was
+abbrev pub guess_after : {X : Type 0} → (X → ℕ) → ℕ → List X → ℕ → ℕ
+guess_after f n xs guess = if has_rank f n xs then length (below_rank f n xs) + 1 else guess
 
 -- the last record, if there is one, has a rank below n, and the first one a rank above it
 abbrev pub LastBelow : {X : Type 0} → (X → ℕ) → ℕ → List X → Type 0

@@ -2,6 +2,7 @@
 #![tactic(auto)]
 
 pub mod key;
+pub mod order;
 pub mod record;
 pub mod register;
 

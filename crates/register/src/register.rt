@@ -1,11 +1,11 @@
 //! Records in the order of their keys.
-ghost use Rattle.std.specs.Prelude.{◌≡◌, Err, ◌+◌, ◌-◌, ◌<◌, ◌≤◌, [], length, take, ◌==◌, IsTrue, IfOk, IfSome, slice_index_or};
+ghost use Rattle.std.specs.Prelude.{◌≡◌, Ok, Err, ◌+◌, ◌-◌, ◌<◌, ◌≤◌, min, [], length, take, ◌==◌, IsTrue, IfOk, IfSome, slice_index_or};
 ghost use Rattle.std.specs.Option.{option_map};
 ghost use Rattle.std.specs.List.{insert, remove};
-ghost use Rattle.register.specs.Contents.{room_in};
+ghost use Rattle.register.specs.Contents.{room_in, loan_of, GivesBack};
 ghost use Rattle.register.specs.Keys.{key_rank, Ascends, found_by, below_rank, from_rank};
 ghost use Rattle.register.specs.Changes.{Inserts, Removes};
-ghost use Rattle.register.specs.Search.{IsPlace, LastBelow, FirstAbove};
+ghost use Rattle.register.specs.Search.{IsPlace, LastBelow, FirstAbove, guess_after};
 
 use crate::key::Key;
 use crate::record::Record;
@@ -13,7 +13,7 @@ use quantities::refusal::Refusal;
 use std::marker::Model;
 
 // No more places than this are used, however many are lent.
-const MOST: usize = 65_535;
+pub(crate) const MOST: usize = 65_535;
 
 /// Records in the order of their keys, in the first places of a lent slice;
 /// what the other places contain does not matter.
@@ -21,23 +21,25 @@ const MOST: usize = 65_535;
 pub struct Register<'a, R: Record> {
     // A lent slice and a count, since the engine takes no memory of its own.
     places: &'a mut [R],
+    room: usize,
     used: usize,
 }
 
-// A clause sees the records and how many there may be.
+// A clause sees the records, how many there may be, and whose memory it is.
 impl<'a, R: Record> Model for Register<'a, R> {
-    ghost use Rattle.std.specs.Prelude.{take, length};
-    ghost use Rattle.register.specs.Contents.{Table, Holds, room_in};
+    ghost use Rattle.std.specs.Prelude.{take};
+    ghost use Rattle.register.specs.Contents.{LentTable, Holds, loan_of};
     ghost use Rattle.register.specs.Keys.{key_rank};
 
-    ghost Value = { Table R };
+    ghost Value = { LentTable R };
 
     ghost view = { λ g. record {
       records = take g.used g.places.now;
-      room = room_in (length g.places.now);
+      room = g.room;
+      lent = loan_of g.places;
     } };
 
-    ghost invariant = { λ g. Holds (key_rank R.Key.rank R.key_of) g.used g.places.now };
+    ghost invariant = { λ g. Holds (key_rank R.Key.rank R.key_of) g.used g.room g.places.now };
 }
 
 impl<'a, R: Record> Register<'a, R> {
@@ -45,8 +47,30 @@ impl<'a, R: Record> Register<'a, R> {
     pub fn new(places: &'a mut [R]) -> Self
         ensures empty { result.records ≡ [] }
         ensures room { result.room ≡ room_in (length places.old) }
+        ensures lent { result.lent ≡ loan_of places.entry }
     {
-        Register { places, used: 0 }
+        Register::with_room(places, MOST)
+    }
+
+    /// A register that holds no records, with room for so many at most.
+    pub fn with_room(places: &'a mut [R], most: usize) -> Self
+        ensures empty { result.records ≡ [] }
+        ensures room { result.room ≡ min (room_in (length places.old)) most }
+        ensures lent { result.lent ≡ loan_of places.entry }
+    {
+        let room = places.len().min(MOST).min(most);
+        Register {
+            places,
+            room,
+            used: 0,
+        }
+    }
+
+    /// The memory that was lent, with the records at its front.
+    pub fn into_memory(self) -> &'a mut [R]
+        ensures { GivesBack self.entry.lent self.entry.records result }
+    {
+        self.places
     }
 
     /// How many records it can hold.
@@ -54,7 +78,7 @@ impl<'a, R: Record> Register<'a, R> {
         ensures is { result ≡ self.now.room }
         ensures most { result ≤ 65535 }
     {
-        self.places.len().min(MOST)
+        self.room
     }
 
     /// How many records it holds.
@@ -92,6 +116,20 @@ impl<'a, R: Record> Register<'a, R> {
         Some(&self.records()[at])
     }
 
+    /// The same, of a record whose place is guessed: the guess is looked at first, and the place is
+    /// searched for where it is wrong. What is found moves the guess to the place behind it.
+    pub fn find_near(&self, guess: &mut usize, key: R::Key) -> Option<&R>
+        ensures found { option_map (λ x. x.now) result
+            ≡ found_by (key_rank R.Key.rank R.key_of) (R.Key.rank key) self.now.records }
+        ensures moved { guess.new ≡ guess_after (key_rank R.Key.rank R.key_of) (R.Key.rank key)
+            self.now.records guess.old }
+    {
+        let at = self.stands_near(*guess, key).ok()?;
+        let records = self.records();
+        *guess = at + 1;
+        Some(&records[at])
+    }
+
     /// The records with a key below that one, and those from it on.
     pub fn split_at_key(&self, key: R::Key) -> (&[R], &[R])
         ensures below { result.0.now
@@ -111,6 +149,7 @@ impl<'a, R: Record> Register<'a, R> {
             self.old.records result self.new.records }
         ensures ascends { Ascends (key_rank R.Key.rank R.key_of) self.old.records }
         ensures room { self.new.room ≡ self.old.room }
+        ensures lent { self.new.lent ≡ self.old.lent }
     {
         // mostly records come in the order of their keys
         self.insert_near(self.used, record)
@@ -123,6 +162,7 @@ impl<'a, R: Record> Register<'a, R> {
             self.old.records result self.new.records }
         ensures ascends { Ascends (key_rank R.Key.rank R.key_of) self.old.records }
         ensures room { self.new.room ≡ self.old.room }
+        ensures lent { self.new.lent ≡ self.old.lent }
     {
         let Err(at) = self.place_near(place, record.key()) else {
             return Err(Refusal::KeyPresent);
@@ -141,6 +181,7 @@ impl<'a, R: Record> Register<'a, R> {
             self.old.records result self.new.records }
         ensures ascends { Ascends (key_rank R.Key.rank R.key_of) self.old.records }
         ensures room { self.new.room ≡ self.old.room }
+        ensures lent { self.new.lent ≡ self.old.lent }
     {
         let at = self.place_of(key).map_err(|_| Refusal::NotStanding)?;
         let record = self.places[at];
@@ -190,6 +231,29 @@ impl<'a, R: Record> Register<'a, R> {
             self.place_of(key)
         }
     }
+
+    // Whether the record of that place has that key.
+    fn stands_at(&self, place: usize, key: R::Key) -> bool
+        ensures { IsTrue result → IsPlace (key_rank R.Key.rank R.key_of) (R.Key.rank key)
+            self.now.records (Ok place) }
+    {
+        match self.records().get(place) {
+            Some(record) => record.key().order(&key).is_eq(),
+            None => false,
+        }
+    }
+
+    // The same as `place_near`, with a guess of the place of a record that is there.
+    fn stands_near(&self, place: usize, key: R::Key) -> Result<usize, usize>
+        ensures { IsPlace (key_rank R.Key.rank R.key_of) (R.Key.rank key)
+            self.now.records result }
+    {
+        if self.stands_at(place, key) {
+            Ok(place)
+        } else {
+            self.place_of(key)
+        }
+    }
 }
 
 fn is_last_below<R: Record>(records: &[R], key: R::Key) -> bool
@@ -212,8 +276,8 @@ fn is_first_above<R: Record>(records: &[R], key: R::Key) -> bool
     }
 }
 
-// Puts a record at a place among the first `used`, and those from there on one place up.
-fn insert_at<R: Copy>(places: &mut [R], used: usize, at: usize, record: R)
+/// Puts a record at a place among the first `used`, and those from there on one place up.
+pub(crate) fn insert_at<R: Copy>(places: &mut [R], used: usize, at: usize, record: R)
     requires { (at ≤ used) × (used < length places.old) }
     ensures { take (used + 1) places.new ≡ insert (take used places.old) at «record» }
 {
@@ -221,8 +285,8 @@ fn insert_at<R: Copy>(places: &mut [R], used: usize, at: usize, record: R)
     places[at..used + 1].rotate_right(1);
 }
 
-// Closes the gap at a place among the first `used`.
-fn remove_at<R: Copy>(places: &mut [R], used: usize, at: usize)
+/// Closes the gap at a place among the first `used`.
+pub(crate) fn remove_at<R: Copy>(places: &mut [R], used: usize, at: usize)
     requires { (at < used) × (used ≤ length places.old) }
     ensures { take (used - 1) places.new ≡ remove (take used places.old) at }
 {

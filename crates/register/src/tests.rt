@@ -55,6 +55,24 @@ fn lines_ascend_and_a_refusal_leaves_them(rt: HostRuntime) {
 }
 
 #[test]
+fn a_guess_moves_behind_what_is_found(rt: HostRuntime) {
+    let mut places = [line(0); 3];
+    let mut lines = Register::new(&mut places);
+    assert_eq!(rt; refused(lines.insert(line(2))), 0);
+    assert_eq!(rt; refused(lines.insert(line(5))), 0);
+    assert_eq!(rt; refused(lines.insert(line(7))), 0);
+    let mut guess = 0;
+    assert_eq!(rt; titles_of(lines.find_near(&mut guess, 5)), 10);
+    assert_eq!(rt; guess, 2);
+    assert_eq!(rt; titles_of(lines.find_near(&mut guess, 7)), 10);
+    assert_eq!(rt; guess, 3);
+    assert_eq!(rt; titles_of(lines.find_near(&mut guess, 6)), 0);
+    assert_eq!(rt; guess, 3);
+    assert_eq!(rt; titles_of(lines.find_near(&mut guess, 2)), 10);
+    assert_eq!(rt; guess, 1);
+}
+
+#[test]
 fn a_place_that_is_freed_is_used_again(rt: HostRuntime) {
     let italian = Price {
         isin: *b"IT0000000017",

@@ -35,7 +35,7 @@ margin_percentage_back p = if_passed-true _ _ (le-leb _ _ p.within) ∙ ap Some 
 pub margin_percentage_number : (n : ℕ) (p : MarginPercentage) → percentage_of_number n ≡ Some p → p.basis_points ≡ n
 margin_percentage_number n p e = ap (λ (q : MarginPercentage). q.basis_points) (sym (if_passed-some _ _ p e).1)
 
-int_le_yes : (a b : ℤ) → a ≤ℤ b → int_le a b ≡ true
+pub int_le_yes : (a b : ℤ) → a ≤ℤ b → int_le a b ≡ true
 int_le_yes a b h = grind (arith, ints)
 
 pub rate_back : (r : Rate) → rate_of_number r.basis_points ≡ Some r

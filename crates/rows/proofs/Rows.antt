@@ -8,11 +8,11 @@ use Rattle.account.specs.Lines.{date}
 use Rattle.account.specs.declared.side.Side.TheVariants.{Bought}
 use Rattle.rows.specs.declared.mode.Mode.TheVariants.{Net}
 use Rattle.rows.specs.declared.curve_shape.CurveShape.TheVariants.{Step}
-use Rattle.account.specs.declared.block_name.BlockName.TheVariants.{Trade as trade, Failed as failed, Held as held, CashOnly as cash_only}
-use Rattle.rows.specs.Forms.{no_isin, date_in}
+use Rattle.account.specs.declared.block_name.BlockName.TheVariants.{CashOnly as cash_only}
+use Rattle.rows.specs.Forms.{cells_of, no_isin, date_in}
 use Rattle.rows.specs.Percentages.{no_margin_percentage}
-use Rattle.rows.specs.Points.{no_rate, no_point, point_cells}
-use Rattle.rows.specs.Prices.{no_unit_price, no_price, price_cells, price_in_range}
+use Rattle.rows.specs.Points.{no_rate, no_point, point_spelling}
+use Rattle.rows.specs.Prices.{no_unit_price, no_price, price_spelling, price_in_range}
 use Rattle.rows.specs.Positions.{block_in}
 use Rattle.rows.specs.Laws.{DaysLaw, PercentagesLaw, PointsLaw, PricesLaw, PositionsLaw}
 use Rattle.rows.proofs.Conditions.{if_passed-true}
@@ -23,6 +23,7 @@ use Rattle.rows.proofs.PartSpellings.{dates, modes, curves, tranches, percents, 
 pub days_law : DaysLaw
 days_law =
     record {
+      named = λ row. refl;
       read = λ cell h.
           let a = and_parts _ _ h in
           let b = and_parts _ _ a.1 in
@@ -45,6 +46,7 @@ days_law =
 pub percentages_law : PercentagesLaw
 percentages_law =
     record {
+      named = λ row. refl;
       read = λ cell h.
           let a = and_parts _ _ h in
           let b = and_parts _ _ a.1 in
@@ -60,12 +62,13 @@ percentages_law =
 pub points_law : PointsLaw
 points_law =
     record {
+      named = λ row. refl;
       read = λ cell h.
           let a = and_parts _ _ h in
           let b = and_parts _ _ a.1 in
           let term = spelling-unwrap_or terms (cell 0) 0 a.0 in
           let rate = spelling-unwrap_or rates (cell 1) no_rate b.0 in
-          (ap (λ o. point_cells (unwrap_or o no_point)) (if_passed-true _ _ term.1) ∙ rw (term.0, rate.0) refl, refl);
+          (ap (λ o. cells_of (point_spelling (unwrap_or o no_point))) (if_passed-true _ _ term.1) ∙ rw (term.0, rate.0) refl, refl);
       spelled = λ row h.
           let term = unwrap_or-spelling terms row.term 0 (le-leb _ _ row.within) in
           let rate = unwrap_or-spelling rates row.rate no_rate refl in
@@ -75,6 +78,7 @@ points_law =
 pub prices_law : PricesLaw
 prices_law =
     record {
+      named = λ row. refl;
       read = λ cell h.
           let a = and_parts _ _ h in
           let b = and_parts _ _ a.1 in
@@ -84,7 +88,7 @@ prices_law =
           let price = spelling-unwrap_or unit_prices (cell 1) no_unit_price b.0 in
           let maturity = spelling-unwrap_or dates (cell 2) 0 c.0 in
           let made_of = if_passed-true (is_isin (cell 0)) _ valid in
-          (ap (λ o. price_cells (unwrap_or o no_price)) made_of ∙ rw (price.0, maturity.0) refl, ap (λ o. price_in_range (unwrap_or o no_price)) made_of ∙ maturity.1);
+          (ap (λ o. cells_of (price_spelling (unwrap_or o no_price))) made_of ∙ rw (price.0, maturity.0) refl, ap (λ o. price_in_range (unwrap_or o no_price)) made_of ∙ maturity.1);
       spelled = λ row h.
           let isin = unwrap_or-spelling isins row.isin no_isin row.valid in
           let price = unwrap_or-spelling unit_prices row.price no_unit_price refl in
@@ -95,6 +99,7 @@ prices_law =
 pub positions_law : PositionsLaw
 positions_law =
     record {
+      named = λ row. refl;
       read = λ cell h.
           let a = and_parts _ _ h in
           let b = and_parts _ _ a.1 in

@@ -1,5 +1,5 @@
 -- The day: today, the next business day, the netting rule of the account and the form of the curve.
-use Rattle.std.specs.Prelude.{Bool, ◌&&◌, List, [], ◌∷◌, Option, Some, None, is_some, unwrap_or, codes, if◌then◌else◌}
+use Rattle.std.specs.Prelude.{Bool, ◌&&◌, [], ◌∷◌, Option, Some, None, is_some, unwrap_or, codes, if◌then◌else◌}
 use Rattle.std.specs.Fmt.{decimal}
 use Rattle.std.specs.Str.{bytes_eq}
 use Rattle.text.specs.Cells.{Cell}
@@ -9,7 +9,7 @@ use Rattle.rows.specs.declared.mode.Mode.TheVariants.{Net, Gross}
 use Rattle.rows.specs.declared.curve_shape.CurveShape.{CurveShape}
 use Rattle.rows.specs.declared.curve_shape.CurveShape.TheVariants.{Step, Sloping}
 use Rattle.rows.specs.declared.day.DayRow.{DayRow}
-use Rattle.rows.specs.Forms.{date_in, is_date}
+use Rattle.rows.specs.Forms.{Spelling, date_in, is_date}
 
 -- N is net, and G gross
 unfoldable pub mode_in : Cell → Option Mode
@@ -54,9 +54,9 @@ curve_cell Step = codes "S"
 curve_cell Sloping = codes "L"
 
 -- how a day is spelled
-abbrev pub day_cells : DayRow → List Cell
-day_cells row =
-    decimal row.today
-    ∷ (decimal row.next
-    ∷ (mode_cell row.mode
-    ∷ (curve_cell row.curve ∷ [])))
+abbrev pub day_spelling : DayRow → Spelling
+day_spelling row =
+    (codes "TODAY", decimal row.today)
+    ∷ ((codes "NEXT", decimal row.next)
+    ∷ ((codes "MODE", mode_cell row.mode)
+    ∷ ((codes "CURVE", curve_cell row.curve) ∷ [])))

@@ -1,5 +1,5 @@
 -- What cells of several kinds of row say; none where a cell does not fit.
-use Rattle.std.specs.Prelude.{ℕ, Bool, true, false, [], Option, Some, None, IsTrue, refl, if◌then◌else◌, nat_le}
+use Rattle.std.specs.Prelude.{ℕ, Bool, true, false, List, [], map, Option, Some, None, IsTrue, refl, if◌then◌else◌, nat_le}
 use Rattle.text.specs.Cells.{Cell}
 use Rattle.text.specs.Numbers.{number_in}
 use Rattle.quantities.specs.declared.isin.Isin.{Isin}
@@ -8,6 +8,16 @@ use Rattle.quantities.specs.Isins.{is_isin}
 -- the last day number
 abbrev pub last_date : ℕ
 last_date = 65535
+
+-- how a row is spelled: under each name the cell of a part
+abbrev pub Spelling : Type 0
+Spelling = List (Cell × Cell)
+
+abbrev pub names_of : Spelling → List Cell
+names_of spelling = map (λ part. part.0) spelling
+
+abbrev pub cells_of : Spelling → List Cell
+cells_of spelling = map (λ part. part.1) spelling
 
 unfoldable pub date_in : Cell → Option ℕ
 date_in cell = number_in 0 last_date cell

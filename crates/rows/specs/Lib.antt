@@ -4,4 +4,5 @@ pub mod Percentages
 pub mod Points
 pub mod Prices
 pub mod Positions
+pub mod Columns
 pub mod Laws

@@ -1,5 +1,5 @@
 -- The margin percentages: one for each tranche.
-use Rattle.std.specs.Prelude.{ℕ, Bool, true, List, [], ◌∷◌, Option, Some, None, is_some, unwrap_or, codes, ◌==◌, if◌then◌else◌, nat_le, option_and_then}
+use Rattle.std.specs.Prelude.{ℕ, Bool, true, [], ◌∷◌, Option, Some, None, is_some, unwrap_or, codes, ◌==◌, if◌then◌else◌, nat_le, option_and_then}
 use Rattle.std.specs.Bool.{passes}
 use Rattle.std.specs.Fmt.{decimal}
 use lib.Dec.{leb→le}
@@ -12,7 +12,7 @@ use Rattle.quantities.specs.Ranges.{highest_percentage}
 use Rattle.quantities.specs.Tranches.{tranche_number}
 use Rattle.sheet.specs.Kinds.{SheetKind}
 use Rattle.market.specs.declared.percentage.Percentage.{Percentage}
-use Rattle.rows.specs.Forms.{if_passed}
+use Rattle.rows.specs.Forms.{Spelling, if_passed}
 
 -- the tranche of a number
 abbrev pub tranche_of_number : ℕ → Option Tranche
@@ -59,7 +59,7 @@ abbrev pub percentage_in_range : Percentage → Bool
 percentage_in_range percentage = true
 
 -- how a percentage is spelled
-abbrev pub percentage_cells : Percentage → List Cell
-percentage_cells percentage =
-    decimal (tranche_number percentage.tranche)
-    ∷ (decimal percentage.percentage.basis_points ∷ [])
+abbrev pub percentage_spelling : Percentage → Spelling
+percentage_spelling percentage =
+    (codes "TRANCHE", decimal (tranche_number percentage.tranche))
+    ∷ ((codes "PCT", decimal percentage.percentage.basis_points) ∷ [])

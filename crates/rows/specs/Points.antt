@@ -1,5 +1,5 @@
 -- The points of the curve: a rate at each term.
-use Rattle.std.specs.Prelude.{ℕ, Bool, true, List, ℤ, pos, [], ◌∷◌, Option, is_some, unwrap_or, codes, nat_le, int_le, option_and_then}
+use Rattle.std.specs.Prelude.{ℕ, Bool, true, ℤ, pos, [], ◌∷◌, Option, is_some, unwrap_or, codes, nat_le, int_le, option_and_then}
 use Rattle.std.specs.Bool.{passes}
 use Rattle.std.specs.Fmt.{decimal, signed_decimal}
 use Rattle.std.specs.Int.Signed.{le_z_yes}
@@ -10,7 +10,7 @@ use Rattle.quantities.specs.declared.range.Rate.{Rate}
 use Rattle.quantities.specs.Ranges.{lowest_rate, highest_rate, longest_curve_term}
 use Rattle.sheet.specs.Kinds.{SheetKind}
 use Rattle.curve.specs.declared.point.Point.{Point}
-use Rattle.rows.specs.Forms.{if_passed, if_both}
+use Rattle.rows.specs.Forms.{Spelling, if_passed, if_both}
 
 unfoldable pub term_in : Cell → Option ℕ
 term_in cell = number_in 0 longest_curve_term cell
@@ -60,5 +60,7 @@ abbrev pub point_in_range : Point → Bool
 point_in_range point = true
 
 -- how a point is spelled
-abbrev pub point_cells : Point → List Cell
-point_cells point = decimal point.term ∷ (signed_decimal point.rate.basis_points ∷ [])
+abbrev pub point_spelling : Point → Spelling
+point_spelling point =
+    (codes "TERM", decimal point.term)
+    ∷ ((codes "RATE", signed_decimal point.rate.basis_points) ∷ [])

@@ -1,5 +1,5 @@
 -- The positions: the lines of an account.
-use Rattle.std.specs.Prelude.{ℕ, Bool, ◌&&◌, List, [], ◌∷◌, Option, Some, None, is_some, unwrap_or, codes, if◌then◌else◌}
+use Rattle.std.specs.Prelude.{ℕ, Bool, ◌&&◌, [], ◌∷◌, Option, Some, None, is_some, unwrap_or, codes, if◌then◌else◌}
 use Rattle.std.specs.Fmt.{decimal}
 use Rattle.std.specs.Str.{bytes_eq}
 use Rattle.text.specs.Cells.{Cell}
@@ -15,7 +15,7 @@ use Rattle.account.specs.Answers.{is_well_formed}
 use Rattle.sheet.specs.Kinds.{SheetKind}
 use Rattle.account.specs.declared.block_name.BlockName.{BlockName}
 use Rattle.account.specs.declared.block_name.BlockName.TheVariants.{Trade as trade, Failed as failed, Held as held, CashOnly as cash_only}
-use Rattle.rows.specs.Forms.{date_in, isin_in, no_isin, is_date}
+use Rattle.rows.specs.Forms.{Spelling, date_in, isin_in, no_isin, is_date}
 
 unfoldable pub reference_in : Cell → Option ℕ
 reference_in cell = number_in 1 highest_reference cell
@@ -93,12 +93,12 @@ block_cell (Held date) = codes "H"
 block_cell (CashOnly date) = codes "C"
 
 -- how a line is spelled
-abbrev pub line_cells : Line → List Cell
-line_cells line =
-    decimal line.reference
-    ∷ (line.isin.bytes
-    ∷ (side_cell line.side
-    ∷ (block_cell line.block
-    ∷ (decimal line.titles
-    ∷ (decimal line.cash
-    ∷ (decimal (date line.block) ∷ []))))))
+abbrev pub line_spelling : Line → Spelling
+line_spelling line =
+    (codes "REF", decimal line.reference)
+    ∷ ((codes "ISIN", line.isin.bytes)
+    ∷ ((codes "SIDE", side_cell line.side)
+    ∷ ((codes "BLOCK", block_cell line.block)
+    ∷ ((codes "TITLES", decimal line.titles)
+    ∷ ((codes "CASH", decimal line.cash)
+    ∷ ((codes "DATE", decimal (date line.block)) ∷ []))))))

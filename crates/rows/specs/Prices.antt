@@ -1,5 +1,5 @@
 -- The prices: one for each ISIN, with its maturity.
-use Rattle.std.specs.Prelude.{ℕ, Bool, List, [], ◌∷◌, Option, is_some, unwrap_or, codes, nat_le, option_and_then, refl}
+use Rattle.std.specs.Prelude.{ℕ, Bool, [], ◌∷◌, Option, is_some, unwrap_or, codes, nat_le, option_and_then, refl}
 use Rattle.std.specs.Bool.{passes}
 use Rattle.std.specs.Fmt.{decimal}
 use lib.Dec.{leb→le}
@@ -10,7 +10,7 @@ use Rattle.quantities.specs.Isins.{is_isin}
 use Rattle.quantities.specs.Ranges.{lowest_price, highest_price}
 use Rattle.sheet.specs.Kinds.{SheetKind}
 use Rattle.market.specs.declared.price.Price.{Price}
-use Rattle.rows.specs.Forms.{date_in, isin_in, is_date, if_passed, if_both}
+use Rattle.rows.specs.Forms.{Spelling, date_in, isin_in, is_date, if_passed, if_both}
 
 -- a number as a price, in its range
 abbrev pub price_of_number : ℕ → Option UnitPrice
@@ -72,8 +72,8 @@ abbrev pub price_in_range : Price → Bool
 price_in_range price = is_date price.maturity
 
 -- how a price is spelled
-abbrev pub price_cells : Price → List Cell
-price_cells price =
-    price.isin.bytes
-    ∷ (decimal price.price.millionths
-    ∷ (decimal price.maturity ∷ []))
+abbrev pub price_spelling : Price → Spelling
+price_spelling price =
+    (codes "ISIN", price.isin.bytes)
+    ∷ ((codes "PRICE", decimal price.price.millionths)
+    ∷ ((codes "MATURITY", decimal price.maturity) ∷ []))

@@ -63,12 +63,10 @@ impl RowKind for DayRows {
 
     ghost COLUMNS = { 4 };
 
-    const NAMES: &'static [&'static [u8]] = &[b"TODAY", b"NEXT", b"MODE", b"CURVE"];
-
     ghost kind = { days };
 
-    fn name(column: usize) -> &'static [u8] {
-        Self::NAMES[column]
+    fn names() -> &'static [&'static [u8]] {
+        &[b"TODAY", b"NEXT", b"MODE", b"CURVE"]
     }
 
     fn fits(column: usize, cells: &Cells<'_, '_>) -> bool {

@@ -46,12 +46,10 @@ impl RowKind for PercentageRows {
 
     ghost COLUMNS = { 2 };
 
-    const NAMES: &'static [&'static [u8]] = &[b"TRANCHE", b"PCT"];
-
     ghost kind = { percentages };
 
-    fn name(column: usize) -> &'static [u8] {
-        Self::NAMES[column]
+    fn names() -> &'static [&'static [u8]] {
+        &[b"TRANCHE", b"PCT"]
     }
 
     fn fits(column: usize, cells: &Cells<'_, '_>) -> bool {

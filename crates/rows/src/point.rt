@@ -45,12 +45,10 @@ impl RowKind for PointRows {
 
     ghost COLUMNS = { 2 };
 
-    const NAMES: &'static [&'static [u8]] = &[b"TERM", b"RATE"];
-
     ghost kind = { points };
 
-    fn name(column: usize) -> &'static [u8] {
-        Self::NAMES[column]
+    fn names() -> &'static [&'static [u8]] {
+        &[b"TERM", b"RATE"]
     }
 
     fn fits(column: usize, cells: &Cells<'_, '_>) -> bool {

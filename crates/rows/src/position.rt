@@ -93,14 +93,12 @@ impl RowKind for PositionRows {
 
     ghost COLUMNS = { 7 };
 
-    const NAMES: &'static [&'static [u8]] = &[
-        b"REF", b"ISIN", b"SIDE", b"BLOCK", b"TITLES", b"CASH", b"DATE",
-    ];
-
     ghost kind = { positions };
 
-    fn name(column: usize) -> &'static [u8] {
-        Self::NAMES[column]
+    fn names() -> &'static [&'static [u8]] {
+        &[
+            b"REF", b"ISIN", b"SIDE", b"BLOCK", b"TITLES", b"CASH", b"DATE",
+        ]
     }
 
     fn fits(column: usize, cells: &Cells<'_, '_>) -> bool {

@@ -44,12 +44,10 @@ impl RowKind for PriceRows {
 
     ghost COLUMNS = { 3 };
 
-    const NAMES: &'static [&'static [u8]] = &[b"ISIN", b"PRICE", b"MATURITY"];
-
     ghost kind = { prices };
 
-    fn name(column: usize) -> &'static [u8] {
-        Self::NAMES[column]
+    fn names() -> &'static [&'static [u8]] {
+        &[b"ISIN", b"PRICE", b"MATURITY"]
     }
 
     fn fits(column: usize, cells: &Cells<'_, '_>) -> bool {

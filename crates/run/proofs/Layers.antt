@@ -1,6 +1,6 @@
 -- Each refusal of a run is of one of its layers.
 use Rattle.std.proofs.Common.{◌≡◌, ℕ, ◌-◌, ◌≤◌, ◌⊎◌, inl, inr, ⊎_elim, Bool, true, false, cond, not, ◌&&◌, ltb, eqb, List, [], ◌∷◌, length, Option, Some, None, Ok, Err, sym, refl, ap, ◌∙◌, subst, arith}
-use Rattle.std.proofs.lemmas.Bool.{eqb-true, eqb-false}
+use Rattle.std.proofs.lemmas.Bool.{eqb-false}
 use Rattle.register.specs.Contents.{Table}
 use Rattle.curve.specs.declared.point.Point.{Point}
 use Rattle.market.specs.Contents.{Quotes}
@@ -14,6 +14,7 @@ use Rattle.account.specs.Answers.{fault, answer_among, margin_answer}
 use Rattle.sheet.specs.Kinds.{SheetKind}
 use Rattle.sheet.specs.Sheets.{Rest}
 use Rattle.sheet.specs.Laws.{after_last}
+use Rattle.sheet.proofs.Written.{read_as_written}
 use Rattle.statement.specs.Statements.{statement_text}
 use Rattle.rows.specs.declared.day.DayRow.{DayRow}
 use Rattle.rows.specs.Days.{days, day_in_range}
@@ -25,16 +26,16 @@ use Rattle.run.specs.Refusals.{RowRefusal, PlacedRefusal, Outcome, refusal_of_ru
 use Rattle.run.specs.KeptSheets.{KeptSheet, Keeping, kept_sheet}
 use Rattle.run.specs.Kept.{keep_day, keep_percentage, keep_point, keep_price, DayLines, keep_line}
 use Rattle.run.specs.Runs.{most_bytes, and_then, input, quotes_of_day, no_points, no_lines, Account, setting_of_day, nothing_left, whole_account, no_day, day_among, one_day, account_of_sheets, outcome_by_answer}
-use Rattle.run.specs.Laws.{HasRow, StandsBehind, PercentageSheetAt, PointSheetAt, PriceSheetAt, PositionSheetAt, RowHasReference, IsWholeRefusal, IsSheetRefusal, IsBookRefusal, IsFirstLacking, IsMarginRefusal, RefusalsLaw}
+use Rattle.run.specs.Laws.{HasRow, StandsBehind, PercentageSheetAt, PointSheetAt, PriceSheetAt, PositionSheetAt, RowHasReference, IsWholeRefusal, IsSheetRefusal, IsBookRefusal, IsMarginRefusal, RefusalsLaw}
 use Rattle.run.proofs.Sheets.{Ranged, sheet_read}
 use Rattle.run.proofs.SheetRefusals.{LeftOf, sheet_reported}
 use Rattle.run.proofs.RowKinds.{Numbered, days_known, percentages_known, points_known, prices_known, positions_known, day_turned, percentage_turned, point_turned, price_turned, line_turned}
 use Rattle.run.proofs.Loaded.{with_prices, with_points, with_percentages, with_day, with_days}
 
-same_err : {X : Type 0} (d e : PlacedRefusal) → ◌≡◌ {A = Outcome X} (Err d) (Err e) → d ≡ e
+pub same_err : {X : Type 0} (d e : PlacedRefusal) → ◌≡◌ {A = Outcome X} (Err d) (Err e) → d ≡ e
 same_err d e h = cc
 
-then_err : {X Y : Type 0} (a : Outcome X) (f : X → Outcome Y) (e : PlacedRefusal) → and_then a f ≡ Err e → (a ≡ Err e) ⊎ ((x : X) × ((a ≡ Ok x) × (f x ≡ Err e)))
+pub then_err : {X Y : Type 0} (a : Outcome X) (f : X → Outcome Y) (e : PlacedRefusal) → and_then a f ≡ Err e → (a ≡ Err e) ⊎ ((x : X) × ((a ≡ Ok x) × (f x ≡ Err e)))
 then_err (Ok x) f e h = inr (x, (refl, h))
 then_err (Err d) f e h = inl (let s : d ≡ e = same_err d e h in ap Err s)
 
@@ -44,7 +45,7 @@ at_trailer bytes line e l m h =
     subst (IsSheetRefusal bytes) (same_err _ e h) (record { layer = refl; from_1 = omega arith; to_5 = omega arith; line = l; within = omega (arith, m); cell = λ n. refl; value = λ n. omega (arith, n); reference = refl })
 
 module _ (bytes : List ℕ) (e : PlacedRefusal) where
-  abbrev Layer : Type 0
+  abbrev pub Layer : Type 0
   Layer = IsSheetRefusal bytes e ⊎ IsBookRefusal bytes e
 
   -- a sheet, and what is made of it
@@ -56,7 +57,7 @@ module _ (bytes : List ℕ) (e : PlacedRefusal) where
       (λ r. let read = sheet_read block_name in_range known keeping s left r.0 r.1.0 in
       let from = l.from in
       let line = read.1.line in
-      further r.0 (record { from = omega arith; counted = read.1.counted ∙ l.counted }) (read.0, read.1.read) r.1.1)
+      further r.0 (record { from = omega arith; counted = read.1.counted ∙ l.counted }) (read.0, (read_as_written block_name known.judged left read.0 r.0.left).0 read.1.read) r.1.1)
       (then_err (kept_sheet block_name keeping s left) f e h)
 
   further_on : (left : Rest) → LeftOf bytes 2 left → LeftOf bytes 1 left
@@ -106,7 +107,7 @@ module _ (bytes : List ℕ) (e : PlacedRefusal) where
   after_days : (day : KeptSheet (Option DayRow)) → LeftOf bytes 2 day.left → PercentageSheetAt bytes day.left → with_days day ≡ Err e → Layer
   after_days day l at h = ⊎_elim (λ r. inl (no_one_day day day.kept l r)) (λ r. after_day day l at r.0 r.1.1) (then_err (one_day day) (with_day day) e h)
 
-  not_loaded : account_of_sheets bytes ≡ Err e → Layer
+  pub not_loaded : account_of_sheets bytes ≡ Err e → Layer
   not_loaded h =
       one_sheet days day_in_range days_known keep_day (λ r. 0) day_turned None (input bytes) with_days (record { from = omega arith; counted = refl })
       (λ line row has. inr (inl (row, (input bytes, (refl, has))), refl)) (λ day m behind. after_days day m (input bytes, (refl, behind))) h
@@ -122,40 +123,26 @@ faults s l h = go (is_same_block (block_name l.block) cash_only) (has_price s l.
     go false true true true h = (omega arith, omega arith)
     go false true true false h = absurd (h refl)
 
-first_lacking : (s : Setting) (all ls : List Line) (n r : ℕ) → answer_among s all ls ≡ refused n r → IsFirstLacking s ls n r × ((10 ≤ n) × (n ≤ 12))
-first_lacking s all [] n r e = let z : ◌≡◌ {A = ℕ} 0 1 = cc in absurd (omega arith)
-first_lacking s all (l ∷ ls) n r e = go (eqb (fault s l) 0) refl e (first_lacking s all ls n r)
+lacking : (s : Setting) (all ls : List Line) (n r : ℕ) → answer_among s all ls ≡ refused n r → (10 ≤ n) × (n ≤ 12)
+lacking s all [] n r e = let z : ◌≡◌ {A = ℕ} 0 1 = cc in absurd (omega arith)
+lacking s all (l ∷ ls) n r e = go (eqb (fault s l) 0) refl e (lacking s all ls n r)
   where
-    go : (b : Bool) → eqb (fault s l) 0 ≡ b → cond b (answer_among s all ls) (refused (fault s l) l.reference) ≡ refused n r →
-        (answer_among s all ls ≡ refused n r → IsFirstLacking s ls n r × ((10 ≤ n) × (n ≤ 12))) → IsFirstLacking s (l ∷ ls) n r × ((10 ≤ n) × (n ≤ 12))
-    go true t e rest =
-        let later = rest e in
-        let found = later.0 in (
-          record {
-            before = l ∷ found.before;
-            line = found.line;
-            after = found.after;
-            lines_are = ap (λ ms. l ∷ ms) found.lines_are;
-            none_before = (eqb-true (fault s l) 0 t, found.none_before);
-            lacks = found.lacks;
-            reference_is = found.reference_is;
-          },
-          later.1,
-        )
+    go : (b : Bool) → eqb (fault s l) 0 ≡ b → cond b (answer_among s all ls) (refused (fault s l) l.reference) ≡ refused n r → (answer_among s all ls ≡ refused n r → (10 ≤ n) × (n ≤ 12)) → (10 ≤ n) × (n ≤ 12)
+    go true t e rest = rest e
     go false t e rest =
         let f = faults s l (eqb-false (fault s l) 0 t) in
         let same : fault s l ≡ n = cc in
-        (record { before = []; line = l; after = ls; lines_are = refl; none_before = tt; lacks = same; reference_is = cc }, (omega arith, omega arith))
+        (omega arith, omega arith)
 
-too_long : {X : Type 0} (t : Bool) (r : Outcome X) (e : PlacedRefusal) → cond t (Err (refusal_of_run 14)) r ≡ Err e → IsWholeRefusal e ⊎ (r ≡ Err e)
+pub too_long : {X : Type 0} (t : Bool) (r : Outcome X) (e : PlacedRefusal) → cond t (Err (refusal_of_run 14)) r ≡ Err e → IsWholeRefusal e ⊎ (r ≡ Err e)
 too_long true r e h = inl (sym (same_err _ e h))
 too_long false r e h = inr h
 
-not_stated : (bytes : List ℕ) (buffer : ℕ) (l : Account) (a : Answer) (e : PlacedRefusal) → account_of_sheets bytes ≡ Ok l → margin_answer l.setting l.standing ≡ a → outcome_by_answer buffer l a ≡ Err e → IsWholeRefusal e ⊎ IsMarginRefusal bytes e
+not_stated : (bytes : List ℕ) (buffer : ℕ) (l : Account) (a : Answer) (e : PlacedRefusal) → account_of_sheets bytes ≡ Ok l → margin_answer l.setting l.standing ≡ a → outcome_by_answer buffer l a ≡ Err e → IsWholeRefusal e ⊎ IsMarginRefusal e
 not_stated bytes buffer l accepted e is q h = cc
 not_stated bytes buffer l (refused n r) e is q h =
-    let w = first_lacking l.setting l.standing l.standing n r q in
-    inr (subst (IsMarginRefusal bytes) (same_err {X = List ℕ} _ e h) (record { layer = refl; from_10 = w.1.0; to_12 = w.1.1; line = refl; cell = refl; account = l; account_is = is; lacking = w.0 }))
+    let w = lacking l.setting l.standing l.standing n r q in
+    inr (subst IsMarginRefusal (same_err {X = List ℕ} _ e h) (record { layer = refl; from_10 = w.0; to_12 = w.1; line = refl; cell = refl }))
 not_stated bytes buffer l (given m k) e is q h =
     let text = statement_text (statement_rows l.setting l.standing) m k in
     ⊎_elim inl (λ (z : Ok text ≡ Err e). cc) (too_long (ltb buffer (length text)) (Ok text) e h)

@@ -23,7 +23,7 @@ use Rattle.run.specs.Runs.{most_bytes, most_lines, netting_rule, rate_by_shape, 
 use Rattle.run.specs.Laws.{records_with, MarginLaw, IsStatementOf, RunStatementLaw}
 use Rattle.run.proofs.Loaded.{then_ok, Steps, steps, entered, lines_kept, worked, lines_of, same_today}
 
-nets : (mode : Mode) → Netting (netting_rule mode)
+pub nets : (mode : Mode) → Netting (netting_rule mode)
 nets Net = search rules
 nets Gross = search rules
 
@@ -50,7 +50,7 @@ margin_law bytes l m k e a =
     record { margin_is = h.0; amounts_are = h.1; within_cents = h.2 }
 
 -- ---- a margin that is asked is given or refused
-never_accepted : (s : Setting) (all ls : List Line) → answer_among s all ls ≡ accepted → ⊥
+pub never_accepted : (s : Setting) (all ls : List Line) → answer_among s all ls ≡ accepted → ⊥
 never_accepted s all [] e = let z : ◌≡◌ {A = ℕ} 0 1 = cc in omega arith
 never_accepted s all (l ∷ ls) e = go (eqb (fault s l) 0) e (never_accepted s all ls)
   where

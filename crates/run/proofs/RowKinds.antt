@@ -1,6 +1,6 @@
 -- What is kept of the rows of each kind, and with which numbers a row is turned away.
-use Rattle.std.proofs.Common.{◌≡◌, ℕ, ◌≤◌, Bool, true, false, cond, not, ltb, List, [], ◌∷◌, length, Option, Some, Ok, Err, Result, sym, refl, ap, ◌∙◌, arith}
-use Rattle.std.proofs.lemmas.Bool.{and_parts, false≢true}
+use Rattle.std.proofs.Common.{◌≡◌, ℕ, ◌≤◌, ◌<◌, Bool, true, false, cond, not, ltb, List, [], ◌∷◌, length, Option, Some, Ok, Err, Result, sym, refl, ap, ◌∙◌, arith}
+use Rattle.std.proofs.lemmas.Bool.{and_parts, false≢true, ltb-true, ltb-false}
 use Rattle.quantities.specs.declared.refusal.Refusal.TheVariants.{KeyPresent, Full}
 use Rattle.quantities.specs.Ranges.{most_titles}
 use Rattle.register.specs.Keys.{has_rank, inserted_by}
@@ -61,11 +61,11 @@ day_turned before r d h e = go (is_next_day r.today r.next) e
     go true e = cc
     go false e = turned_by 7 0 d (omega arith) (omega arith) e
 
-pub day_kept : (before : Option DayRow) (r : DayRow) (u : Option DayRow) → keep_day before r ≡ Ok u → u ≡ Some r
+pub day_kept : (before : Option DayRow) (r : DayRow) (u : Option DayRow) → keep_day before r ≡ Ok u → (is_next_day r.today r.next ≡ true) × (u ≡ Some r)
 day_kept before r u e = go (is_next_day r.today r.next) e
   where
-    go : (b : Bool) → kept_day r (cond b (Ok (r.today, r.next)) (Err 7)) ≡ Ok u → u ≡ Some r
-    go true e = cc
+    go : (b : Bool) → kept_day r (cond b (Ok (r.today, r.next)) (Err 7)) ≡ Ok u → (b ≡ true) × (u ≡ Some r)
+    go true e = (refl, cc)
     go false e = cc
 
 -- a record is put in
@@ -73,12 +73,13 @@ module _ {X S : Type 0} (rank : X → ℕ) (keep : List X → S) (free : Bool) (
   abbrev Put : Bool → Bool → Result S RowRefusal
   Put present free = kept_table keep (cond present (Err KeyPresent) (cond free (Ok (inserted_by rank x before)) (Err Full)))
 
-  record_kept : (t : S) → kept_table keep (put rank free x before) ≡ Ok t → t ≡ keep (inserted_by rank x before)
+  -- one that is kept has a new key and a free place
+  pub record_kept : (t : S) → kept_table keep (put rank free x before) ≡ Ok t → (has_rank rank (rank x) before ≡ false) × ((free ≡ true) × (t ≡ keep (inserted_by rank x before)))
   record_kept t e = go (has_rank rank (rank x) before) free e
     where
-      go : (p f : Bool) → Put p f ≡ Ok t → t ≡ keep (inserted_by rank x before)
+      go : (p f : Bool) → Put p f ≡ Ok t → (p ≡ false) × ((f ≡ true) × (t ≡ keep (inserted_by rank x before)))
       go true f e = cc
-      go false true e = cc
+      go false true e = (refl, (refl, cc))
       go false false e = cc
 
   record_turned : (d : RowRefusal) → kept_table keep (put rank free x before) ≡ Err d → Numbered 0 d
@@ -99,7 +100,7 @@ module _ {X S : Type 0} (rank : X → ℕ) (free : S → Bool) (held : S → Lis
       (s t : S) (xs : List X) → KeptAll Keeper s xs t → t ≡ with_held s (records_with rank (held s) xs)
   records_kept whole over s t [] k = sym k ∙ whole s
   records_kept whole over s t (x ∷ xs) k =
-      let first = record_kept rank (with_held s) (free s) x (held s) k.0 k.1.0 in
+      let first = (record_kept rank (with_held s) (free s) x (held s) k.0 k.1.0).1.1 in
       records_kept whole over k.0 t xs k.1.1 ∙ (ap (λ u. with_held u (records_with rank (held u) xs)) first ∙ over s (inserted_by rank x (held s)) xs)
 
 pub prices_kept : (s t : Quotes) (ps : List Price) → KeptAll keep_price s ps t → t ≡ record s { prices = records_with price_rank s.prices ps }
@@ -126,15 +127,28 @@ module _ (h : DayLines) (l : Line) where
   Due formed present dated many room =
       cond (not formed) (refused 4 l.reference) (cond present (refused 6 l.reference) (cond (not dated) (refused 7 l.reference) (cond many (refused 8 l.reference) (cond room accepted (refused 9 l.reference)))))
 
-  pub line_kept : (u : DayLines) → keep_line h l ≡ Ok u → (accepted ≡ enter_answer h.today h.room h.standing l) × (u ≡ record h { standing = inserted_by line_rank l h.standing })
-  line_kept u e = go (is_well_formed l) (has_rank line_rank l.reference h.standing) (is_well_dated h.today l.block) (ltb most_titles (titles_with l h.standing)) (ltb (length h.standing) h.room) e
+  -- one that is kept passes each test, and is put in
+  pub record LineKept (u : DayLines) : Type 0 where
+    pub accepts : accepted ≡ enter_answer h.today h.room h.standing l
+    pub formed : is_well_formed l ≡ true
+    pub new : has_rank line_rank l.reference h.standing ≡ false
+    pub dated : is_well_dated h.today l.block ≡ true
+    pub titles : titles_with l h.standing ≤ most_titles
+    pub room_left : length h.standing < h.room
+    pub put_in : u ≡ record h { standing = inserted_by line_rank l h.standing }
+
+  pub line_kept : (u : DayLines) → keep_line h l ≡ Ok u → LineKept u
+  line_kept u e =
+      let p = go (is_well_formed l) (has_rank line_rank l.reference h.standing) (is_well_dated h.today l.block) (ltb most_titles (titles_with l h.standing)) (ltb (length h.standing) h.room) e in
+      record { accepts = p.5; formed = p.0; new = p.1; dated = p.2; titles = ltb-false most_titles (titles_with l h.standing) p.3; room_left = ltb-true (length h.standing) h.room p.4; put_in = p.6 }
     where
-      go : (f p d m r : Bool) → kept_line h l (Due f p d m r) ≡ Ok u → (accepted ≡ Due f p d m r) × (u ≡ record h { standing = inserted_by line_rank l h.standing })
+      go : (f p d m r : Bool) → kept_line h l (Due f p d m r) ≡ Ok u →
+          (f ≡ true) × (p ≡ false) × (d ≡ true) × (m ≡ false) × (r ≡ true) × (accepted ≡ Due f p d m r) × (u ≡ record h { standing = inserted_by line_rank l h.standing })
       go false p d m r e = cc
       go true true d m r e = cc
       go true false false m r e = cc
       go true false true true r e = cc
-      go true false true false true e = (refl, cc)
+      go true false true false true e = (refl, refl, refl, refl, refl, refl, cc)
       go true false true false false e = cc
 
   pub line_turned : (d : RowRefusal) → line_in_range l ≡ true → keep_line h l ≡ Err d → Numbered l.reference d

@@ -1,14 +1,13 @@
 -- A sheet that is kept to its end: its rows are read, and kept one after another. Elsewhere its refusal is reported.
-use Rattle.std.proofs.Common.{◌≡◌, ℕ, suc, ◌+◌, ◌<◌, Bool, true, false, cond, ◌&&◌, List, [], ◌∷◌, length, get_or, Option, Some, None, Ok, Err, Result, sym, refl, ap, ◌∙◌, arith}
-use Rattle.std.specs.List.{list_all}
-use Rattle.std.proofs.lemmas.Bool.{and_from}
+use Rattle.std.proofs.Common.{◌≡◌, ℕ, ◌+◌, ◌<◌, Bool, true, false, cond, ◌&&◌, List, [], ◌∷◌, length, Option, Some, None, Ok, Err, Result, sym, refl, ap, ◌∙◌, arith}
+use Rattle.std.specs.List.{AllByRecursion}
 use Rattle.text.specs.Cells.{Cell, cells}
 use Rattle.sheet.specs.declared.refusal.SheetRefusal.{SheetRefusal}
 use Rattle.sheet.specs.Kinds.{SheetKind, cell_at}
 use Rattle.sheet.specs.Sheets.{Rest, OpenSheet, rest_past_line, needed_cells, has_row_count, row_of_cells, row_answer, is_trailer, row_in, next_row, one_row_later, after_answer, after_row, closed_at, close_answer, is_top, are_columns, started_sheet, open_at_names, open_at_top, open_answer}
 use Rattle.sheet.specs.Laws.{HasNames, after_last, with_row, no_rows, rows_by_answer, rows_in, rows_if_open, sheet_rows}
 use Rattle.sheet.proofs.Numbering.{lines_counted}
-use Rattle.sheet.proofs.Rows.{opened_has_names, accepted_rows}
+use Rattle.sheet.proofs.Rows.{all_from, opened_has_names, accepted_rows}
 use Rattle.rows.specs.Laws.{all_fit}
 use Rattle.run.specs.Refusals.{RowRefusal}
 use Rattle.run.specs.KeptSheets.{KeptSheet, Keeping, trailer_outcome, row_outcome, next_outcome, kept_rest, opening_outcome, kept_sheet}
@@ -20,8 +19,7 @@ KeptAll {Row} {S} keeping s (r ∷ rs) t = (u : S) × ((keeping s r ≡ Ok u) ×
 
 -- rows that are within their ranges
 abbrev pub EachIn : {Row : Type 0} → (Row → Bool) → List Row → Type 0
-EachIn in_range [] = Unit {0}
-EachIn in_range (r ∷ rs) = (in_range r ≡ true) × EachIn in_range rs
+EachIn in_range rows = AllByRecursion (λ r. in_range r ≡ true) rows
 
 -- what is known of a kind: cells that fit make a row within its ranges, and each needed cell is judged
 pub record Ranged {Row : Type 0} (kind : SheetKind Row) (in_range : Row → Bool) : Type 0 where
@@ -45,10 +43,6 @@ pub record Read {Row S : Type 0} (kind : SheetKind Row) (in_range : Row → Bool
   pub counted : after_last t.left ≡ after_last left
   pub ranged : EachIn in_range rows
   pub kept : KeptAll keeping s rows t.kept
-
-all_from : (fs : List Bool) → ((i : ℕ) → i < length fs → get_or fs i true ≡ true) → list_all (λ f. f) fs ≡ true
-all_from [] h = refl
-all_from (f ∷ fs) h = and_from f (list_all (λ g. g) fs) (h 0 (omega arith)) (all_from fs (λ i l. h (suc i) (omega arith)))
 
 if_ok : {X E : Type 0} (t : Bool) (r : Result X E) (y : X) (e : E) → cond t r (Err e) ≡ Ok y → r ≡ Ok y
 if_ok true r y e h = h

@@ -1,5 +1,5 @@
 -- The promise of a run.
-use Rattle.std.specs.Prelude.{◌≡◌, ℕ, zero, suc, ◌+◌, ◌≤◌, ◌⊎◌, ◌≢◌, List, [], ◌∷◌, ◌++◌, length, Some, Ok, Err, IsTrue}
+use Rattle.std.specs.Prelude.{◌≡◌, ℕ, zero, suc, ◌+◌, ◌≤◌, ◌⊎◌, ◌≢◌, List, [], ◌∷◌, length, Some, Ok, Err}
 use Rattle.quantities.specs.Refusals.{number}
 use Rattle.quantities.specs.declared.refusal.Refusal.TheVariants.{Value, TooLong}
 use Rattle.register.specs.Keys.{inserted_by}
@@ -9,17 +9,14 @@ use Rattle.market.specs.declared.percentage.Percentage.{Percentage}
 use Rattle.market.specs.declared.price.Price.{Price}
 use Rattle.market.specs.Records.{price_rank, percentage_rank}
 use Rattle.account.specs.declared.line.Line.{Line}
-use Rattle.account.specs.Settings.{Setting}
 use Rattle.account.specs.Calls.{given, line_rank}
-use Rattle.account.specs.Answers.{fault}
 use Rattle.account.specs.Margin.{margin, rounded_amounts}
 use Rattle.account.specs.Exact.{exact_margin}
 use Rattle.account.specs.Joint.{WithinCents}
-use Rattle.valuation.specs.Checks.{Faultless}
 use Rattle.text.specs.Lines.{lines}
 use Rattle.sheet.specs.Kinds.{SheetKind}
 use Rattle.sheet.specs.Sheets.{Rest, OpenSheet, open_answer, next_row, after_row}
-use Rattle.sheet.specs.Laws.{sheet_rows}
+use Rattle.sheet.specs.Written.{IsSheet}
 use Rattle.statement.specs.Statements.{statement_text}
 use Rattle.rows.specs.declared.day.DayRow.{DayRow}
 use Rattle.rows.specs.Days.{days}
@@ -28,7 +25,8 @@ use Rattle.rows.specs.Points.{points}
 use Rattle.rows.specs.Prices.{prices}
 use Rattle.rows.specs.Positions.{positions}
 use Rattle.run.specs.Refusals.{PlacedRefusal, refusal_of_run}
-use Rattle.run.specs.Runs.{input, netting_rule, rate_by_shape, nothing_left, Account, account_answer, account_rows, account_of_sheets, run}
+use Rattle.run.specs.Runs.{input, netting_rule, rate_by_shape, Account, account_answer, account_rows, account_of_sheets, run}
+use Rattle.run.specs.Spelled.{SheetsSpell}
 
 -- the records before, with others put in by rank, one after another
 abbrev pub records_with : {X : Type 0} → (X → ℕ) → List X → List X → List X
@@ -39,26 +37,29 @@ records_with rank before (x ∷ xs) = records_with rank (inserted_by rank x befo
 abbrev pub records_by : {X : Type 0} → (X → ℕ) → List X → List X
 records_by rank xs = records_with rank [] xs
 
--- the rows of the five sheets, read by the names of their columns,
+-- no line is left, and no byte behind the last line feed
+abbrev pub NothingStands : Rest → Type 0
+NothingStands left = (left.lines ≡ []) × (left.loose ≡ [])
+
+-- the rows of the five sheets, as they are written under the names of their columns,
 -- and what is left behind each sheet
 pub record DeliveredRows (bytes : List ℕ) : Type 0 where
   pub day : DayRow
   pub behind_day : Rest
-  pub day_sheet : sheet_rows days (input bytes) ≡ Ok (day ∷ [], behind_day)
+  pub day_sheet : IsSheet days (input bytes) (day ∷ []) behind_day
   pub percentage_rows : List Percentage
   pub behind_percentages : Rest
-  pub percentage_sheet :
-      sheet_rows percentages behind_day ≡ Ok (percentage_rows, behind_percentages)
+  pub percentage_sheet : IsSheet percentages behind_day percentage_rows behind_percentages
   pub point_rows : List Point
   pub behind_points : Rest
-  pub point_sheet : sheet_rows points behind_percentages ≡ Ok (point_rows, behind_points)
+  pub point_sheet : IsSheet points behind_percentages point_rows behind_points
   pub price_rows : List Price
   pub behind_prices : Rest
-  pub price_sheet : sheet_rows prices behind_points ≡ Ok (price_rows, behind_prices)
+  pub price_sheet : IsSheet prices behind_points price_rows behind_prices
   pub lines : List Line
   pub behind_lines : Rest
-  pub position_sheet : sheet_rows positions behind_prices ≡ Ok (lines, behind_lines)
-  pub nothing_behind : IsTrue (nothing_left behind_lines)
+  pub position_sheet : IsSheet positions behind_prices lines behind_lines
+  pub nothing_behind : NothingStands behind_lines
 
 -- what is loaded, by those rows
 pub record LoadedFrom {bytes : List ℕ} (rows : DeliveredRows bytes) (account : Account) :
@@ -79,6 +80,17 @@ abbrev pub RowsLaw : Type 0
 RowsLaw =
     (bytes : List ℕ) (account : Account) → account_of_sheets bytes ≡ Ok account →
     (rows : DeliveredRows bytes) × LoadedFrom rows account
+
+-- sheets that spell an account are read, and their rows say it: it is the only one that they spell
+abbrev pub SpelledRowsLaw : Type 0
+SpelledRowsLaw =
+    (bytes : List ℕ) (account : Account) → SheetsSpell bytes account →
+    (rows : DeliveredRows bytes) × LoadedFrom rows account
+
+abbrev pub OneAccountLaw : Type 0
+OneAccountLaw =
+    (bytes : List ℕ) (account other : Account) →
+    SheetsSpell bytes account → SheetsSpell bytes other → account ≡ other
 
 -- a margin of what is loaded: it is that of the lines, never below their exact margin,
 -- and above it by at most one cent for each rounded amount
@@ -107,11 +119,13 @@ RunStatementLaw =
     (bytes : List ℕ) (buffer : ℕ) (text : List ℕ) → run bytes buffer ≡ Ok text →
     IsStatementOf bytes text
 
--- what is promised of a statement: it says a margin of what the rows of the five sheets say
+-- what is promised of a statement: it says a margin of what the rows of the five sheets say,
+-- and which line of the input says what
 pub record PromisedStatement (bytes text : List ℕ) : Type 0 where
   pub statement : IsStatementOf bytes text
   pub rows : DeliveredRows bytes
   pub from : LoadedFrom rows statement.account
+  pub spelled : SheetsSpell bytes statement.account
 
 -- a sheet that is being read, after so many of its rows
 abbrev pub reading_after_rows : {Row : Type 0} → SheetKind Row → ℕ → OpenSheet → OpenSheet
@@ -135,7 +149,7 @@ HasRow kind left line row =
 -- where each of the five sheets begins: behind the one above it
 abbrev pub StandsBehind : {Row : Type 0} → SheetKind Row → Rest → Rest → Type 0
 StandsBehind {Row} kind above left =
-    (rows : List Row) × (sheet_rows kind above ≡ Ok (rows, left))
+    (rows : List Row) × IsSheet kind above rows left
 
 abbrev pub DaySheetAt : List ℕ → Rest → Type 0
 DaySheetAt bytes left = left ≡ input bytes
@@ -202,31 +216,18 @@ pub record IsBookRefusal (bytes : List ℕ) (e : PlacedRefusal) : Type 0 where
   pub cell : e.cell ≡ 0
   pub reference : RowHasReference bytes e.line e.reference
 
--- the first of lines that lacks a price, a percentage or a rate, and which of them it lacks
-pub record IsFirstLacking (s : Setting) (ls : List Line) (n reference : ℕ) : Type 0 where
-  pub before : List Line
-  pub line : Line
-  pub after : List Line
-  pub lines_are : ls ≡ before ++ (line ∷ after)
-  pub none_before : Faultless s before
-  pub lacks : fault s line ≡ n
-  pub reference_is : line.reference ≡ reference
-
--- a line that stands has no margin; the lines stand by reference, so it is the one of the lowest
-pub record IsMarginRefusal (bytes : List ℕ) (e : PlacedRefusal) : Type 0 where
+-- a line has no margin, and is told by its reference alone
+pub record IsMarginRefusal (e : PlacedRefusal) : Type 0 where
   pub layer : e.layer ≡ 3
   pub from_10 : 10 ≤ e.number
   pub to_12 : e.number ≤ 12
   pub line : e.line ≡ 0
   pub cell : e.cell ≡ 0
-  pub account : Account
-  pub account_is : account_of_sheets bytes ≡ Ok account
-  pub lacking : IsFirstLacking account.setting account.standing e.number e.reference
 
 -- a refusal of those bytes is of one of four layers, with the numbers that the layer has
 abbrev pub HasLayer : List ℕ → PlacedRefusal → Type 0
 HasLayer bytes e =
-    IsWholeRefusal e ⊎ (IsSheetRefusal bytes e ⊎ (IsBookRefusal bytes e ⊎ IsMarginRefusal bytes e))
+    IsWholeRefusal e ⊎ (IsSheetRefusal bytes e ⊎ (IsBookRefusal bytes e ⊎ IsMarginRefusal e))
 
 abbrev pub RefusalsLaw : Type 0
 RefusalsLaw =

@@ -4,6 +4,8 @@ pub mod Kept
 pub mod Days
 pub mod Runs
 pub mod Answers
+pub mod Spelled
 pub mod Laws
 pub mod Accepted
+pub mod Causes
 pub mod Example

@@ -1,7 +1,9 @@
 //! A run over the bytes of its five sheets.
-ghost use Rattle.std.specs.Prelude.{length, take, IfOk, IfErr};
+ghost use Rattle.std.specs.Prelude.{◌≤◌, length, take, ◌↔◌, IsOk, IfOk, IfErr};
+ghost use Rattle.run.specs.Accepted.{NothingWrong, TooLongOnly};
 ghost use Rattle.run.specs.Runs.{sheets_outcome, run};
-ghost use Rattle.run.specs.Laws.{PromisedStatement, HasLayer};
+ghost use Rattle.run.specs.Laws.{PromisedStatement};
+ghost use Rattle.run.specs.Causes.{RefusedByCause};
 ghost use Rattle.run.specs.Refusals.{placed_refusal};
 ghost use Rattle.run.specs.Answers.{WritesText};
 
@@ -9,7 +11,6 @@ use crate::keepers::day::DayKeeper;
 use crate::read_sheet::keep_sheet;
 use crate::refusal::RunRefusal;
 use crate::state::state;
-use account::by_isin::ByIsin;
 use account::line::Line;
 use book::book::Book;
 use curve::point::Point;
@@ -18,6 +19,7 @@ use market::market::Market;
 use market::percentage::Percentage;
 use market::price::Price;
 use quantities::refusal::Refusal;
+use register::order::Place;
 use rows::day::DayRows;
 use rows::percentage::PercentageRows;
 use rows::point::PointRows;
@@ -27,6 +29,9 @@ use sheet::input::Input;
 
 /// How many bytes the sheets of a run have at most.
 pub const MOST_BYTES: usize = 65_536;
+
+/// How many bytes their statement has at most: a buffer of so many has room for every one.
+pub const MOST_STATEMENT: usize = 65_536;
 
 /// How many prices it has at most.
 pub const MOST_PRICES: usize = 256;
@@ -44,7 +49,7 @@ fn work(sheets: &[u8], buffer: &mut [u8]) -> Result<usize, RunRefusal>
     let mut percentages = [Percentage::default(); 6];
     let mut points = [Point::default(); Points::MOST];
     let mut lines = [Line::default(); MOST_LINES];
-    let mut by_isin = [ByIsin::default(); MOST_LINES];
+    let mut by_isin: [Place; MOST_LINES] = [0; MOST_LINES];
 
     let day_sheet = keep_sheet::<DayRows, DayKeeper>(&Input::new(sheets), &mut day)?;
     let day = day.one(&day_sheet)?;
@@ -65,8 +70,12 @@ fn work(sheets: &[u8], buffer: &mut [u8]) -> Result<usize, RunRefusal>
 /// buffer: answers its length, or why there is none, and then the buffer keeps all that it held.
 pub fn run(sheets: &[u8], buffer: &mut [u8]) -> Result<usize, RunRefusal>
     ensures answer { WritesText (run sheets.now (length buffer.old)) result buffer.old buffer.new }
+    ensures accepted { IsOk result ↔ NothingWrong sheets.now (length buffer.old) }
+    ensures bounded { IfOk result (λ len. (1 ≤ len) × (len ≤ MOST_STATEMENT)) }
+    ensures too_long { IfErr result (λ refusal.
+        TooLongOnly sheets.now (length buffer.old) (placed_refusal refusal)) }
     ensures promise { IfOk result (λ len. PromisedStatement sheets.now (take len buffer.new)) }
-    ensures refusal { IfErr result (λ refusal. HasLayer sheets.now (placed_refusal refusal)) }
+    ensures refusal { RefusedByCause sheets.now (length buffer.old) result }
 {
     if sheets.len() > MOST_BYTES {
         return Err(RunRefusal::whole(Refusal::TooLong));

@@ -5,5 +5,8 @@ pub mod Names
 pub mod Numbering
 pub mod Readings
 pub mod Rows
+pub mod WrongLines
+pub mod Causes
 pub mod Split
 pub mod Front
+pub mod Written

@@ -10,7 +10,7 @@ use Rattle.sheet.specs.Kinds.{cell_at}
 use Rattle.sheet.specs.Sheets.{count_of, place_of, are_named, are_columns, places_of}
 use Rattle.sheet.specs.Laws.{EachNameStands, ReadByName}
 
-once : (needed names : List Cell) (i : ℕ) → are_named needed names ≡ true → i < length needed → count_of (cell_at needed i) names ≡ 1
+pub once : (needed names : List Cell) (i : ℕ) → are_named needed names ≡ true → i < length needed → count_of (cell_at needed i) names ≡ 1
 once [] names i e l = absurd (omega arith)
 once (n ∷ ns) names zero e l = eqb-true _ _ (and_parts (eqb (count_of n names) 1) (are_named ns names) e).0
 once (n ∷ ns) names (suc i) e l = once ns names i (and_parts (eqb (count_of n names) 1) (are_named ns names) e).1 (omega arith)
@@ -33,7 +33,7 @@ some_times name (n ∷ names) p l e = further (bytes_eq name n) p refl l e (some
     further false (suc q) t l e rest = rest q (omega arith) e
 
 -- a name that stands once stands at its place
-stands : (name : Cell) (names : List Cell) → count_of name names ≡ 1 → (place_of name names < length names) × (cell_at names (place_of name names) ≡ name)
+pub stands : (name : Cell) (names : List Cell) → count_of name names ≡ 1 → (place_of name names < length names) × (cell_at names (place_of name names) ≡ name)
 stands name [] e = absurd (omega arith)
 stands name (n ∷ names) e = further (bytes_eq name n) refl e (stands name names)
   where
@@ -45,7 +45,7 @@ stands name (n ∷ names) e = further (bytes_eq name n) refl e (stands name name
         (omega arith, get_or_tail n names (1 + place_of name names) [] (omega arith) ∙ (ap (cell_at names) at ∙ s.1))
 
 -- and nowhere else
-nowhere_else : (name : Cell) (names : List Cell) (p : ℕ) → count_of name names ≡ 1 → p < length names → cell_at names p ≡ name → place_of name names ≡ p
+pub nowhere_else : (name : Cell) (names : List Cell) (p : ℕ) → count_of name names ≡ 1 → p < length names → cell_at names p ≡ name → place_of name names ≡ p
 nowhere_else name [] p o l e = absurd (omega arith)
 nowhere_else name (n ∷ names) p o l e =
     further (bytes_eq name n) p refl o l e (nowhere_else name names)

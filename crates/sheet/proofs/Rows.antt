@@ -1,7 +1,7 @@
 -- What is known of a row that is accepted or refused.
 use Rattle.std.proofs.Common.{◌≡◌, ℕ, zero, suc, ◌+◌, ◌<◌, ◌≤◌, Bool, true, false, cond, eqb, List, [], ◌∷◌, length, get_or, Option, Some, None, Result, Ok, Err, refl, sym, ap, min, ◌∙◌, ⊎_elim, arith}
 use Rattle.std.specs.List.{list_all}
-use Rattle.std.proofs.lemmas.Bool.{eqb-true, cases_lt, false≢true}
+use Rattle.std.proofs.lemmas.Bool.{and_from, eqb-true, cases_lt, false≢true}
 use Rattle.std.proofs.lemmas.List.{length-map}
 use Rattle.std.proofs.lemmas.Option.{none-some, same_Some}
 use Rattle.text.specs.Cells.{Cell, cells}
@@ -13,7 +13,7 @@ use Rattle.sheet.specs.Laws.{HasNames, OpenedHasNames, AcceptedRows, Leftmost, L
 use Rattle.sheet.proofs.Leftmost.{none_misfits}
 
 module _ {X E : Type 0} where
-  if_ok : (t : Bool) (r : Result X E) (e : E) (y : X) → cond t r (Err e) ≡ Ok y → (t ≡ true) × (r ≡ Ok y)
+  pub if_ok : (t : Bool) (r : Result X E) (e : E) (y : X) → cond t r (Err e) ≡ Ok y → (t ≡ true) × (r ≡ Ok y)
   if_ok true r e y h = (refl, h)
   if_ok false r e y h = cc
 
@@ -23,23 +23,27 @@ module _ {X E : Type 0} where
   same_err : (d e : E) → ◌≡◌ {A = Result X E} (Err d) (Err e) → d ≡ e
   same_err d e h = cc
 
-  same_ok : (x y : X) → ◌≡◌ {A = Result X E} (Ok x) (Ok y) → x ≡ y
+  pub same_ok : (x y : X) → ◌≡◌ {A = Result X E} (Ok x) (Ok y) → x ≡ y
   same_ok x y h = cc
 
-all_at : (fits : List Bool) (i : ℕ) → list_all (λ f. f) fits ≡ true → get_or fits i true ≡ true
+pub all_at : (fits : List Bool) (i : ℕ) → list_all (λ f. f) fits ≡ true → get_or fits i true ≡ true
 all_at [] i e = refl
 all_at (true ∷ fs) zero e = refl
 all_at (true ∷ fs) (suc i) e = all_at fs i e
 all_at (false ∷ fs) i e = absurd (false≢true e)
 
+pub all_from : (fs : List Bool) → ((i : ℕ) → i < length fs → get_or fs i true ≡ true) → list_all (λ f. f) fs ≡ true
+all_from [] h = refl
+all_from (f ∷ fs) h = and_from f (list_all (λ g. g) fs) (h 0 (omega arith)) (all_from fs (λ i l. h (suc i) (omega arith)))
+
 -- where a place is the leftmost, it is that of a cell that does not fit, and what stands further left fits
-record Least (fits : List Bool) (places : List ℕ) (p i : ℕ) : Type 0 where
+pub record Least (fits : List Bool) (places : List ℕ) (p i : ℕ) : Type 0 where
   pub within : i < length fits
   pub place : p ≡ get_or places i 0
   pub misfit : get_or fits i true ≡ false
   pub left_fit : (j : ℕ) → get_or places j 0 < p → get_or fits j true ≡ true
 
-least : (fits : List Bool) (places : List ℕ) (p : ℕ) → length fits ≤ length places → leftmost fits places ≡ Some p → (i : ℕ) × Least fits places p i
+pub least : (fits : List Bool) (places : List ℕ) (p : ℕ) → length fits ≤ length places → leftmost fits places ≡ Some p → (i : ℕ) × Least fits places p i
 least [] places p l e = absurd (none-some _ e)
 least (f ∷ fs) [] p l e = absurd (omega arith)
 least (true ∷ fs) (q ∷ ps) p l e =
@@ -77,7 +81,7 @@ if_value : {Row : Type 0} (o : Option ℕ) (row : Row) (line : ℕ) (e : SheetRe
 if_value None row line e h = cc
 if_value (Some p) row line e h = (p, (refl, cc))
 
-if_row : {Row : Type 0} (o : Option ℕ) (row : Row) (line : ℕ) (y : Row) → row_if o row line ≡ Ok y → (o ≡ None) × (row ≡ y)
+pub if_row : {Row : Type 0} (o : Option ℕ) (row : Row) (line : ℕ) (y : Row) → row_if o row line ≡ Ok y → (o ≡ None) × (row ≡ y)
 if_row None row line y h = (refl, cc)
 if_row (Some p) row line y h = cc
 

@@ -2,3 +2,5 @@ pub mod Kinds
 pub mod Sheets
 pub mod Columns
 pub mod Laws
+pub mod Written
+pub mod Causes

@@ -1,6 +1,7 @@
 //! The columns that a sheet's kind needs, found by their names.
 ghost use Rattle.std.specs.Prelude.{◌≡◌, ◌<◌, ◌≤◌, length, take, IsFalse, IfSome, MatchOption};
 ghost use Rattle.text.specs.Cells.{cells};
+ghost use Rattle.sheet.specs.Kinds.{cell_at};
 ghost use Rattle.sheet.specs.Sheets.{are_columns};
 ghost use Rattle.sheet.specs.Columns.{texts, one_place, PlacesIfNamed, HasColumns};
 
@@ -23,6 +24,13 @@ fn one_place(name: &[u8], names: &[&[u8]]) -> Option<usize>
     found
 }
 
+/// The name of a column that a kind needs; empty where it has no such column.
+fn name<K: RowKind>(column: usize) -> &'static [u8]
+    ensures { result.now ≡ cell_at K.kind.needed column }
+{
+    K::names().get(column).copied().unwrap_or_default()
+}
+
 /// The place of each column that a kind needs; none where a needed name stands not once.
 fn places<K: RowKind>(names: &[&[u8]]) -> Option<[u8; MOST_COLUMNS]>
     requires { length names.now ≤ 32 }
@@ -30,7 +38,7 @@ fn places<K: RowKind>(names: &[&[u8]]) -> Option<[u8; MOST_COLUMNS]>
 {
     let mut places = [0; MOST_COLUMNS];
     for column in 0..K::COLUMNS {
-        places[column] = one_place(K::name(column), names)? as u8;
+        places[column] = one_place(name::<K>(column), names)? as u8;
     }
     Some(places)
 }

@@ -1,6 +1,7 @@
 //! What is left of an input.
-ghost use Rattle.std.specs.Prelude.{◌≡◌, ◌<◌, ◌≤◌, ◌^◌, [], ◌∷◌, length, take, ◌==◌, ◌&&◌, MatchOption};
-ghost use Rattle.text.specs.Ends.{EndsIfRoom};
+ghost use Rattle.std.specs.Prelude.{◌≡◌, ◌≤◌, ◌^◌, [], ◌∷◌, length, take, ◌==◌, ◌&&◌, MatchOption, SomeIff};
+ghost use Rattle.text.specs.Cells.{cells};
+ghost use Rattle.text.specs.Ends.{TakesEnds};
 ghost use Rattle.text.specs.Lines.{lines, loose};
 ghost use Rattle.sheet.specs.Sheets.{Follows};
 
@@ -75,11 +76,14 @@ impl<'a> Input<'a> {
         ))
     }
 
-    /// The ends of the cells of the first line, put into the room;
-    /// none where there are more cells than room.
-    pub(crate) fn cell_ends<'r>(&self, line: &[u8], room: &'r mut [usize]) -> Option<&'r [usize]>
+    /// Puts the ends of the cells of the first line into the room, from its front on, and answers
+    /// how many there are; none where there are more than there is room for, and the room is full
+    /// then.
+    pub(crate) fn cell_ends(&self, line: &[u8], room: &mut [usize]) -> Option<usize>
         requires { take 1 self.now.lines ≡ line.now ∷ [] }
-        ensures { EndsIfRoom line.now (length room.old) result }
+        ensures count { let count = length (cells line.now) in
+            SomeIff result (count ≤ length room.old) count }
+        ensures room { TakesEnds line.now room.old room.new }
     {
         cell_ends(self.ahead, line.len(), room)
     }

@@ -1,7 +1,8 @@
 //! A kind of row.
-ghost use Rattle.std.specs.Prelude.{◌≡◌, ◌<◌, ◌≤◌, ℕ, List, length, true};
+ghost use Rattle.std.specs.Prelude.{◌≡◌, ◌≤◌, ℕ, List, length, true};
 ghost use Rattle.std.specs.List.{slice_index_or};
 ghost use Rattle.text.specs.Cells.{Cell};
+ghost use Rattle.sheet.specs.Columns.{texts};
 ghost use Rattle.sheet.specs.Kinds.{SheetKind, cell_at, fitting_row};
 
 use crate::cells::Cells;
@@ -20,19 +21,14 @@ pub trait RowKind {
 
     ghost COLUMNS: { ℕ };
 
-    /// The names of those columns.
-    const NAMES: &'static [&'static [u8]];
-
     ghost kind: { SheetKind Self.Row };
 
-    /// The name of a column that it needs.
-    fn name(column: usize) -> &'static [u8]
-        requires { column < COLUMNS }
-        ensures { result.now ≡ cell_at kind.needed column };
+    /// The names of the columns that it needs.
+    fn names() -> &'static [&'static [u8]]
+        ensures { texts result.now ≡ kind.needed };
 
-    /// Whether the cell of a column that it needs fits.
+    /// Whether the cell of a needed column fits; true where there is no such column.
     fn fits(column: usize, cells: &Cells<'_, '_>) -> bool
-        requires { column < COLUMNS }
         ensures { result ≡ slice_index_or (kind.fits (cell_at cells.now)) column true };
 
     /// The row that the cells make, where each of them fits.

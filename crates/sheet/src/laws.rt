@@ -1,4 +1,6 @@
 //! The laws of sheets: they are the contract of a function that does nothing else.
+ghost use Rattle.sheet.specs.Written.{ReadAsWritten};
+ghost use Rattle.sheet.specs.Causes.{CausesStand};
 ghost use Rattle.sheet.specs.Laws.{EachNameStands, ReadByName, OpenedHasNames, StaysNamed, AcceptedRows, LeftmostReported, LinesCounted, LinesReported, SameReadings};
 
 use crate::kind::RowKind;
@@ -20,7 +22,12 @@ pub fn sheet_laws_stand<K: RowKind>()
     ensures lines_counted { LinesCounted K.kind }
     // A refusal tells a line that is left, or the one after the last where a line is missing.
     ensures lines_reported { LinesReported K.kind }
+    // A sheet is refused just where something is wrong with it, for the first thing that is wrong.
+    ensures causes_stand { CausesStand K.kind }
     // Sheets with the same cells under the needed names are read alike,
     // whatever their other columns and their order.
     ensures same_readings { SameReadings K.kind }
+    // A sheet is read, with those rows, just where it is written so: its mark and a version, the
+    // needed names in any order, a line for each row, and END with their count.
+    ensures read_as_written { ReadAsWritten K.kind }
 {}

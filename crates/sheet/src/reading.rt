@@ -83,8 +83,8 @@ impl<'a, K: RowKind> Reading<'a, K> {
         let mut room = [0; MOST_COLUMNS];
         let places = &self.columns.places[..K::COLUMNS];
         match self.left.cell_ends(line, &mut room) {
-            Some(ends) if ends.len() == self.columns.width => made::<K>(
-                &Cells::new(line, ends, places),
+            Some(count) if count == self.columns.width => made::<K>(
+                &Cells::new(line, &room[..count], places),
                 places,
                 self.line(),
             ),

@@ -43,7 +43,7 @@ pub(crate) fn digits(number: u64) -> usize
 /// How many bytes a signed number has.
 pub(crate) fn signed_len(number: i64) -> usize
     ensures size { result ≡ length (signed_decimal number) }
-    ensures bound { result ≤ 21 }
+    ensures bound { result ≤ 20 }
 {
     digits(number.unsigned_abs()) + usize::from(number < 0)
 }

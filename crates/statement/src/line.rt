@@ -12,7 +12,8 @@ use account::scope::Scope;
 
 /// How long the line of a row is.
 pub(crate) fn row_len(row: &Row) -> usize
-    ensures { result ≡ length (row_text row.now) }
+    ensures size { result ≡ length (row_text row.now) }
+    ensures bound { result ≤ 59 }
 {
     let named = row.isin.bytes.len() + scope_cells(row.scope).len();
     named + digits(row.initial_margin) + signed_len(row.variation_margin) + 2

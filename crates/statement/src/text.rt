@@ -1,5 +1,5 @@
 //! The text of a statement.
-ghost use Rattle.std.specs.Prelude.{◌≡◌, ◌^◌, ◌<◌, ◌≤◌, length, SomeIff};
+ghost use Rattle.std.specs.Prelude.{◌≡◌, ◌+◌, ◌*◌, ◌^◌, ◌<◌, ◌≤◌, length, IfOk, IfSome, SomeIff};
 ghost use Rattle.quantities.specs.RangeChecks.{numbers_of};
 ghost use Rattle.statement.specs.Statements.{statement_text, memory_with_bytes, length_answer, memory_with_text};
 
@@ -29,17 +29,6 @@ impl<'a> Model for Statement<'a> {
 }
 
 impl<'a> Statement<'a> {
-    // How long the text is, where a number of bytes can be that.
-    fn len(&self) -> Option<usize>
-        ensures { SomeIff result (length self.now < 2 ^ 64) (length self.now) }
-    {
-        let mut len = HEAD.len() + total_len(self.margin) + end_len(self.rows.len());
-        for row in self.rows {
-            len = len.checked_add(row_len(row))?;
-        }
-        Some(len)
-    }
-
     // Puts the text at the front of the memory.
     fn write(&self, memory: &mut [u8])
         requires { length self.now ≤ length memory.old }
@@ -55,17 +44,32 @@ impl<'a> Statement<'a> {
     }
 }
 
+// How long the text is, where a number of bytes can be that.
+fn statement_len(rows: &[Row], margin: Margin) -> Option<usize>
+    ensures size { let text = statement_text rows.now margin.cents margin.rounded_amounts in
+        SomeIff result (length text < 2 ^ 64) (length text) }
+    ensures bound { IfSome result (λ len. len ≤ 101 + 59 * length rows.now) }
+{
+    let mut len = HEAD.len() + total_len(margin) + end_len(rows.len());
+    for row in rows {
+        len = len.checked_add(row_len(row))?;
+    }
+    Some(len)
+}
+
 /// Writes the statement of a margin at the front of a buffer, and answers its length; refuses a
-/// text that is longer than the buffer, which then keeps all that it held.
+/// text that is longer than the buffer, which then keeps all that it held. A text has at most 101
+/// bytes, and 59 for each row.
 pub fn write_statement(rows: &[Row], margin: Margin, buffer: &mut [u8]) -> Result<usize, Refusal>
     ensures answer { let text = statement_text rows.now margin.cents margin.rounded_amounts in
         numbers_of (λ len. len) result ≡ length_answer text buffer.old }
     ensures buffer { let text = statement_text rows.now margin.cents margin.rounded_amounts in
         buffer.new ≡ memory_with_text text buffer.old }
+    ensures bound { IfOk result (λ len. len ≤ 101 + 59 * length rows.now) }
 {
     let statement = Statement { rows, margin };
     // the length is known before the first byte is written
-    let len = statement.len().ok_or(Refusal::TooLong)?;
+    let len = statement_len(rows, margin).ok_or(Refusal::TooLong)?;
     if len > buffer.len() {
         return Err(Refusal::TooLong);
     }

@@ -1,28 +1,30 @@
 -- The ends of a line's cells, found one by one.
-use Rattle.std.proofs.Common.{◌≡◌, ℕ, zero, suc, ◌+◌, ◌-◌, ◌<◌, ◌≤◌, eqb, Bool, true, false, List, [], ◌∷◌, length, take, drop, get_or, set, length-drop, length-take, Some, None, sym, refl, ap, ◌∙◌, arith}
+use Rattle.std.proofs.Common.{◌≡◌, ℕ, zero, suc, ◌+◌, ◌-◌, ◌<◌, ◌≤◌, eqb, Bool, true, false, List, [], ◌∷◌, length, take, drop, get_or, set, length-drop, Some, None, sym, refl, ap, ◌∙◌, arith}
 use Rattle.std.specs.List.{position}
 use Rattle.std.proofs.lemmas.Bool.{ltb-true, eqb-true, eqb-false}
-use Rattle.std.proofs.lemmas.List.{drop_more, drop-drop, take_all, get_or-take, get_or-set_same, get_or-set_other, length-set}
+use Rattle.std.proofs.lemmas.List.{drop_more, drop_all, drop-drop, drop-set-lt, take_all, get_or-set_same, get_or-set_other, length-set}
 use Rattle.std.proofs.lemmas.List.Splits.{slice_split_first}
 use Rattle.std.proofs.lemmas.Option.{cond_some}
 use Rattle.text.specs.Cells.{cells}
-use Rattle.text.specs.Ends.{start_of, StandsAt, Ends}
+use Rattle.text.specs.Ends.{start_of, StandsAt, EndThere, TakesEnds}
 use Rattle.text.proofs.Parts.{some_part, only_one}
 
--- the first cells of a line end where the room says
-pub record Upto (line room : List ℕ) (n : ℕ) : Type 0 where
-  pub each : (i : ℕ) → i < n → StandsAt line i (start_of room i) (get_or room i 0)
+-- the first cells of a line end where the room says, which is as it was behind them
+pub record Upto (line old room : List ℕ) (n : ℕ) : Type 0 where
+  pub each : EndThere line room n
   pub start : start_of room n ≤ length line
   pub rest : drop n (cells line) ≡ cells (drop (start_of room n) line)
-
-pub none_yet : (line room : List ℕ) → Upto line room 0
-none_yet line room = record { each = λ i l. absurd (omega arith); start = omega arith; rest = refl }
+  pub size : length room ≡ length old
+  pub behind : drop n room ≡ drop n old
 
 first_cell : (bs : List ℕ) (k : ℕ) → position (λ b. eqb b 59) bs ≡ Some k → (k < length bs) × (cells bs ≡ take k bs ∷ cells (drop (k + 1) bs))
 first_cell bs k e =
     let c = cond_some _ _ k e in
     let l = ltb-true _ _ c.0 in
     rw (← c.1) (l, slice_split_first (λ b. eqb b 59) bs 0 l)
+
+drop_one_more : (n : ℕ) (xs ys : List ℕ) → drop n xs ≡ drop n ys → drop (n + 1) xs ≡ drop (n + 1) ys
+drop_one_more n xs ys e = sym (drop-drop 1 n xs) ∙ (ap (drop 1) e ∙ drop-drop 1 n ys)
 
 some_cell : (bs : List ℕ) → 0 < length (cells bs)
 some_cell bs = some_part 59 bs
@@ -34,7 +36,7 @@ held xs ys n x d e =
     let s = sym (drop_more xs n d l) ∙ e in
     (l, ap (λ zs. get_or zs 0 d) s, ap (drop 1) s)
 
-module _ (line room : List ℕ) (n p : ℕ) (l : n < length room) (u : Upto line room n) where
+module _ (line old room : List ℕ) (n p : ℕ) (l : n < length room) (u : Upto line old room n) where
   abbrev put : List ℕ
   put = set room n p
 
@@ -49,7 +51,7 @@ module _ (line room : List ℕ) (n p : ℕ) (l : n < length room) (u : Upto line
   same_start (suc i) m = ap (λ e. e + 1) (earlier i (omega arith))
 
   -- with one more cell, which ends at p
-  placed : StandsAt line n (start_of room n) p → (i : ℕ) → i < n + 1 → StandsAt line i (start_of put i) (get_or put i 0)
+  placed : StandsAt line n (start_of room n) p → EndThere line put (n + 1)
   placed s i m = by_place (eqb i n) refl
     where
       by_place : (b : Bool) → eqb i n ≡ b → StandsAt line i (start_of put i) (get_or put i 0)
@@ -61,13 +63,19 @@ module _ (line room : List ℕ) (n p : ℕ) (l : n < length room) (u : Upto line
           let m : i < n = omega (arith, other) in
           rw (same_start i (omega arith), earlier i m) (u.each i m)
 
+  put_size : length put ≡ length old
+  put_size = length-set room n p ∙ u.size
+
+  put_behind : drop (n + 1) put ≡ drop (n + 1) old
+  put_behind = drop-set-lt (n + 1) room n p (omega arith) ∙ drop_one_more n room old u.behind
+
   pub next_start : start_of put (n + 1) ≡ p + 1
   next_start =
       let e : n + 1 ≡ suc n = omega arith in
       ap (start_of put) e ∙ ap (λ q. q + 1) here
 
   -- a cell ends at a semicolon
-  pub step : (k : ℕ) → position (λ b. eqb b 59) (drop (start_of room n) line) ≡ Some k → p ≡ start_of room n + k → Upto line put (n + 1)
+  pub step : (k : ℕ) → position (λ b. eqb b 59) (drop (start_of room n) line) ≡ Some k → p ≡ start_of room n + k → Upto line old put (n + 1)
   step k e q =
       let s = start_of room n in
       let f = first_cell (drop s line) k e in
@@ -79,26 +87,33 @@ module _ (line room : List ℕ) (n p : ℕ) (l : n < length room) (u : Upto line
         each = placed (record { ordered = omega (arith, q); within = omega (arith, q, within); is = h.1 ∙ ap (λ j. take j (drop s line)) len });
         start = omega (arith, next_start, q, within);
         rest = h.2 ∙ ap cells (drop-drop (k + 1) s line ∙ ap (λ j. drop j line) (on ∙ sym next_start));
+        size = put_size;
+        behind = put_behind;
       }
 
   -- the last one, at the end of the line
-  pub last : position (λ b. eqb b 59) (drop (start_of room n) line) ≡ None → p ≡ length line → Ends line (take (n + 1) put)
+  pub last : position (λ b. eqb b 59) (drop (start_of room n) line) ≡ None → p ≡ length line → (length (cells line) ≡ n + 1) × TakesEnds line old put
   last e q =
       let s = start_of room n in
-      let ends = take (n + 1) put in
       let h = held (cells line) _ n _ [] (u.rest ∙ only_one 59 (drop s line) e) in
       let stands : StandsAt line n s p = record { ordered = omega (arith, q, u.start); within = omega (arith, q); is = h.1 ∙ sym (take_all (p - s) (drop s line) (omega (arith, q, length-drop s line))) } in
-      let long : length ends ≡ n + 1 = omega (arith, length-take (n + 1) put, length-set room n p) in
-      record {
-        count = omega (arith, long, h.0, length-drop (n + 1) (cells line), ap length h.2);
-        each = λ i m. taken i (omega (arith, m, long)) (placed stands i (omega (arith, m, long)));
-      }
-    where
-      taken : (i : ℕ) → i < n + 1 → StandsAt line i (start_of put i) (get_or put i 0) → StandsAt line i (start_of (take (n + 1) put) i) (get_or (take (n + 1) put) i 0)
-      taken zero m t = rw (get_or-take (n + 1) put 0 0 m) t
-      taken (suc i) m t = rw (get_or-take (n + 1) put (suc i) 0 m, get_or-take (n + 1) put i 0 (omega arith)) t
+      let count : length (cells line) ≡ n + 1 = omega (arith, h.0, length-drop (n + 1) (cells line), ap length h.2) in (
+        count,
+        record {
+          room = put_size;
+          front = λ i m. placed stands i (omega (arith, m, count));
+          behind = rw count put_behind;
+        },
+      )
 
 -- where the room is full, cells are left
-pub full : (line room : List ℕ) (n : ℕ) → length room ≤ n → Upto line room n → length room < length (cells line)
-full line room n l u =
-    omega (arith, length-drop n (cells line), ap length u.rest, some_cell (drop (start_of room n) line))
+pub full : (line old room : List ℕ) (n : ℕ) → length room ≤ n → Upto line old room n → (length room < length (cells line)) × TakesEnds line old room
+full line old room n l u =
+    let more : length room < length (cells line) = omega (arith, length-drop n (cells line), ap length u.rest, some_cell (drop (start_of room n) line)) in (
+      more,
+      record {
+        room = u.size;
+        front = λ i m. u.each i (omega (arith, m, l, u.size));
+        behind = drop_all (length (cells line)) room (omega (arith, more)) ∙ sym (drop_all (length (cells line)) old (omega (arith, more, u.size)));
+      },
+    )

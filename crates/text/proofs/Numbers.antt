@@ -43,11 +43,6 @@ digits_number_past low high n (b ∷ bs) h =
 pub past : (high : ℕ) (digits : List ℕ) (i n : ℕ) → Read digits i n → high < n → option_and_then (within 0 high) (digits_number 0 digits) ≡ None
 past high digits i n read h = ap (option_and_then (within 0 high)) (sym read) ∙ digits_number_past 0 high n (drop i digits) h
 
--- what is at most the higher of two bounds is judged by the lower alone
-pub judged_once : (low high most : ℕ) (o : Option ℕ) → high ≤ most → option_and_then (within low high) (option_and_then (within 0 most) o) ≡ option_and_then (within low high) o
-judged_once low high most None l = refl
-judged_once low high most (Some n) l = grind (arith, nat_tests)
-
 read_within : (low high x : ℤ) (o : Option ℤ) → option_and_then (within_signed low high) o ≡ Some x → o ≡ Some x
 read_within low high x None e = cc
 read_within low high x (Some y) e = ap Some (cond_some _ y x e).1

@@ -1,6 +1,5 @@
 -- Where the cells of a line end.
-use Rattle.std.specs.Prelude.{◌≡◌, ℕ, zero, suc, ◌+◌, ◌-◌, ◌<◌, ◌≤◌, List, [], length, take, drop, Option, slice_index, MatchOption}
-use Rattle.std.specs.Borrow.{Bor}
+use Rattle.std.specs.Prelude.{◌≡◌, ℕ, zero, suc, ◌+◌, ◌-◌, ◌<◌, ◌≤◌, List, [], length, take, drop, slice_index, min}
 use Rattle.std.specs.List.{slice_index_or}
 use Rattle.text.specs.Cells.{cells}
 
@@ -15,12 +14,19 @@ pub record StandsAt (line : List ℕ) (i start end : ℕ) : Type 0 where
   pub within : end ≤ length line
   pub is : slice_index_or (cells line) i [] ≡ take (end - start) (drop start line)
 
+-- so many cells of a line, from the first on, end there
+abbrev pub EndThere : List ℕ → List ℕ → ℕ → Type 0
+EndThere line ends n =
+    (i : ℕ) → i < n → StandsAt line i (start_of ends i) (slice_index ends i)
+
 -- the cells of a line end there
 pub record Ends (line ends : List ℕ) : Type 0 where
   pub count : length ends ≡ length (cells line)
-  pub each : (i : ℕ) → i < length ends → StandsAt line i (start_of ends i) (slice_index ends i)
+  pub each : EndThere line ends (length ends)
 
--- the ends of the cells of a line, or none where it has more cells than there is room for
-abbrev pub EndsIfRoom : List ℕ → ℕ → Option (Bor (List ℕ)) → Type 0
-EndsIfRoom line room answer =
-    MatchOption answer (room < length (cells line)) (λ ends. Ends line ends.now)
+-- a room into which the ends of a line's cells were put, as many as there is room for;
+-- what is behind them stays
+pub record TakesEnds (line old new : List ℕ) : Type 0 where
+  pub room : length new ≡ length old
+  pub front : EndThere line new (min (length (cells line)) (length old))
+  pub behind : drop (length (cells line)) new ≡ drop (length (cells line)) old

@@ -1,23 +1,26 @@
 //! Where the cells of a line end.
-ghost use Rattle.std.specs.Prelude.{◌<◌, ◌≤◌, length, take};
-ghost use Rattle.text.specs.Ends.{EndsIfRoom};
+ghost use Rattle.std.specs.Prelude.{◌<◌, ◌≤◌, length, take, SomeIff};
+ghost use Rattle.text.specs.Cells.{cells};
+ghost use Rattle.text.specs.Ends.{TakesEnds};
 
 use crate::cell::SEMICOLON;
 use crate::part::position;
 use crate::window::{WINDOW, lowest, marks, with, without};
 
 // The ends of the cells of a line that ends among the bytes that are looked at together.
-fn near_ends<'r>(text: &[u8], end: usize, room: &'r mut [usize]) -> Option<&'r [usize]>
+fn near_ends(text: &[u8], end: usize, room: &mut [usize]) -> Option<usize>
     requires near { end < 64 }
     requires seen { 64 ≤ length text.now }
-    ensures { EndsIfRoom (take end text.now) (length room.old) result }
+    ensures count { let count = length (cells (take end text.now)) in
+        SomeIff result (count ≤ length room.old) count }
+    ensures room { TakesEnds (take end text.now) room.old room.new }
 {
     let mut marks = with(marks(text, SEMICOLON), end);
     for place in 0..room.len() {
         let at = lowest(marks);
         room[place] = at;
         if at == end {
-            return Some(&room[..place + 1]);
+            return Some(place + 1);
         }
         marks = without(marks, at);
     }
@@ -25,8 +28,10 @@ fn near_ends<'r>(text: &[u8], end: usize, room: &'r mut [usize]) -> Option<&'r [
 }
 
 // The ends of the cells of a line of any length, found one by one.
-fn far_ends<'r>(line: &[u8], room: &'r mut [usize]) -> Option<&'r [usize]>
-    ensures { EndsIfRoom line.now (length room.old) result }
+fn far_ends(line: &[u8], room: &mut [usize]) -> Option<usize>
+    ensures count { let count = length (cells line.now) in
+        SomeIff result (count ≤ length room.old) count }
+    ensures room { TakesEnds line.now room.old room.new }
 {
     let mut start = 0;
     for place in 0..room.len() {
@@ -37,17 +42,20 @@ fn far_ends<'r>(line: &[u8], room: &'r mut [usize]) -> Option<&'r [usize]>
             }
             None => {
                 room[place] = line.len();
-                return Some(&room[..place + 1]);
+                return Some(place + 1);
             }
         }
     }
     None
 }
 
-/// The ends of the cells of the line that stands in front of a text up to `end`, put into the room;
-/// none where it has more cells than there is room for.
-pub fn cell_ends<'r>(text: &[u8], end: usize, room: &'r mut [usize]) -> Option<&'r [usize]>
-    ensures { EndsIfRoom (take end text.now) (length room.old) result }
+/// Puts the ends of the cells of the line that stands in front of a text up to `end` into the
+/// room, from its front on, and answers how many there are; none where there are more than there
+/// is room for, and the room is full then.
+pub fn cell_ends(text: &[u8], end: usize, room: &mut [usize]) -> Option<usize>
+    ensures count { let count = length (cells (take end text.now)) in
+        SomeIff result (count ≤ length room.old) count }
+    ensures room { TakesEnds (take end text.now) room.old room.new }
 {
     if end < WINDOW && text.len() >= WINDOW {
         near_ends(text, end, room)

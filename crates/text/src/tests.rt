@@ -100,7 +100,8 @@ fn a_minus_stands_before_a_negative_number(rt: HostRuntime) {
 /// Whether the cells of the line before the place end there; none where the room is too small.
 fn ends_are(text: &[u8], end: usize, ends: Option<&[usize]>) -> bool {
     let mut room = [0; 4];
-    end <= text.len() && cell_ends(text, end, &mut room) == ends
+    let count = cell_ends(text, end, &mut room);
+    end <= text.len() && count.and_then(|count| room.get(..count)) == ends
 }
 
 #[test]

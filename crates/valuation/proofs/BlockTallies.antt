@@ -3,10 +3,8 @@ use Rattle.std.proofs.Common.{◌≡◌, ℕ, ◌+◌, ◌≤◌, List, [], ◌�
 use Rattle.std.specs.List.{list_all}
 use Rattle.std.specs.Option.{option_to_list}
 use Rattle.quantities.specs.declared.isin.Isin.{Isin}
-use Rattle.account.specs.declared.by_isin.ByIsin.{ByIsin}
 use Rattle.account.specs.declared.line.Line.{Line}
 use Rattle.account.specs.declared.row.Row.{Row}
-use Rattle.account.specs.ByIsin.{lines_in}
 use Rattle.account.specs.Lines.{same_isin, is_in_block, keep}
 use Rattle.account.specs.declared.block_name.BlockName.{BlockName}
 use Rattle.account.specs.declared.block_name.BlockName.TheVariants.{Trade as trade, Failed as failed, Held as held, CashOnly as cash_only}
@@ -28,9 +26,9 @@ pub space_blocks : (i : Isin) (ls : List Line) {t : Tally} → HasSpaceFor (isin
 space_blocks i ls {t} s = subst (λ n. HasSpaceFor n t) (omega (arith, of_blocks i ls)) s
 
 -- the same of lines that are all of the ISIN
-pub space_of_blocks : (i : Isin) (xs : List ByIsin) {t : Tally} → list_all (λ l. same_isin l.isin i) (lines_in xs) ≡ true → HasSpaceFor (length xs) t →
-    HasSpaceFor (count_in i trade (lines_in xs) + (count_in i failed (lines_in xs) + (count_in i held (lines_in xs) + (count_in i cash_only (lines_in xs) + 0)))) t
-space_of_blocks i xs {t} h p = space_blocks i (lines_in xs) (subst (λ n. HasSpaceFor n t) (sym (all_counted i xs h)) p)
+pub space_of_blocks : (i : Isin) (xs : List Line) {t : Tally} → list_all (λ l. same_isin l.isin i) xs ≡ true → HasSpaceFor (length xs) t →
+    HasSpaceFor (count_in i trade xs + (count_in i failed xs + (count_in i held xs + (count_in i cash_only xs + 0)))) t
+space_of_blocks i xs {t} h p = space_blocks i xs (subst (λ n. HasSpaceFor n t) (sym (all_counted i xs h)) p)
 
 pub each_more : (m n : ℕ) (o : Option Row) → m ≤ n → IfSome o (RowWithin m) → IfSome o (RowWithin n)
 each_more m n None h w = tt

@@ -3,9 +3,7 @@ use Rattle.std.proofs.Common.{◌≡◌, ℕ, ◌+◌, Bool, true, false, cond, 
 use Rattle.std.specs.List.{list_all}
 use Rattle.std.proofs.lemmas.Bool.{and_parts}
 use Rattle.quantities.specs.declared.isin.Isin.{Isin}
-use Rattle.account.specs.declared.by_isin.ByIsin.{ByIsin}
 use Rattle.account.specs.declared.line.Line.{Line}
-use Rattle.account.specs.ByIsin.{lines_in}
 use Rattle.account.specs.Lines.{block_name, is_same_block, same_isin, is_in_block, keep}
 use Rattle.account.specs.declared.block_name.BlockName.{BlockName}
 use Rattle.account.specs.declared.block_name.BlockName.TheVariants.{Trade as trade, Failed as failed, Held as held, CashOnly as cash_only}
@@ -43,8 +41,8 @@ of_blocks i (l ∷ ls) =
     go false k = refl
 
 -- lines of one ISIN are all of it
-pub all_counted : (i : Isin) (xs : List ByIsin) → list_all (λ l. same_isin l.isin i) (lines_in xs) ≡ true → isin_line_count i (lines_in xs) ≡ length xs
+pub all_counted : (i : Isin) (xs : List Line) → list_all (λ l. same_isin l.isin i) xs ≡ true → isin_line_count i xs ≡ length xs
 all_counted i [] h = refl
 all_counted i (x ∷ xs) h =
-    let p = and_parts (same_isin x.line.isin i) (list_all (λ l. same_isin l.isin i) (lines_in xs)) h in
-    omega (arith, length_first (λ l. same_isin l.isin i) x.line (lines_in xs), ap {B = ℕ} (λ b. cond b 1 0) p.0, all_counted i xs p.1)
+    let p = and_parts (same_isin x.isin i) (list_all (λ l. same_isin l.isin i) xs) h in
+    omega (arith, length_first (λ l. same_isin l.isin i) x xs, ap {B = ℕ} (λ b. cond b 1 0) p.0, all_counted i xs p.1)

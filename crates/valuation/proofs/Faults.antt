@@ -1,12 +1,9 @@
 -- The check of lines, turn by turn.
-use Rattle.std.proofs.Common.{◌≡◌, ℕ, ◌+◌, ◌<◌, ◌≤◌, List, [], ◌∷◌, length, get_or, drop, false, add-one, drop-cons, subst, Ok, Err, Result, sym, refl, ◌∙◌, ap₂}
+use Rattle.std.proofs.Common.{◌≡◌, ℕ, List, [], ◌∷◌, drop, false, subst, Ok, Err, Result, sym, refl, ◌∙◌, ap₂}
 use Rattle.std.specs.Result.{is_err}
 use Rattle.std.proofs.lemmas.Bool.{cond-true, eq-eqb}
-use Rattle.std.proofs.lemmas.List.{drop_all}
 use Rattle.quantities.specs.declared.refusal.Refusal.{Refusal}
-use Rattle.account.specs.declared.by_isin.ByIsin.{ByIsin}
 use Rattle.account.specs.declared.line.Line.{Line}
-use Rattle.account.specs.ByIsin.{lines_in}
 use Rattle.account.specs.declared.line_refusal.LineRefusal.{LineRefusal}
 use Rattle.account.specs.Settings.{Setting}
 use Rattle.account.specs.Margin.{margin, rounded_amounts}
@@ -22,15 +19,8 @@ use Rattle.valuation.specs.Checks.{number_or_zero, Faultless, FindsFirstFault}
 pub record Clear (s : Setting) (ls : List Line) (k : ℕ) : Type 0 where
   pub rest : (r : Result (Unit {0}) LineRefusal) → FindsFirstFault s (drop k ls) r → FindsFirstFault s ls r
 
--- where the lines from k on have no fault, none has one
-pub record ClearTo (s : Setting) (xs : List ByIsin) (k : ℕ) : Type 0 where
-  pub rest : Faultless s (lines_in (drop k xs)) → Faultless s (lines_in xs)
-
-pub clear_more : {s : Setting} {xs : List ByIsin} {k : ℕ} (d : ByIsin) → k < length xs → fault s (get_or xs k d).line ≡ 0 → ClearTo s xs k → ClearTo s xs (k + 1)
-clear_more {s} {xs} {k} d h e c = record { rest = λ f. c.rest (subst (λ ys. Faultless s (lines_in ys)) (sym (drop-cons xs k d h)) (e, rw add-one at f)) }
-
-pub clear_all : {s : Setting} {xs : List ByIsin} {k : ℕ} → length xs ≤ k → ClearTo s xs k → Faultless s (lines_in xs)
-clear_all {s} {xs} {k} h c = c.rest (subst (λ ys. Faultless s (lines_in ys)) (sym (drop_all k xs h)) tt)
+pub clear_more : (s : Setting) {rest next : List Line} {l : Line} → rest ≡ l ∷ next → fault s l ≡ 0 → Faultless s next → Faultless s rest
+clear_more s h e f = subst (Faultless s) (sym h) (e, f)
 
 pub no_fault : (r : Result (Unit {0}) Refusal) {n : ℕ} → false ≡ is_err r → number_or_zero r ≡ n → n ≡ 0
 no_fault (Ok x) e d = sym d

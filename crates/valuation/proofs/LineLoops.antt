@@ -1,47 +1,31 @@
 -- One turn of a loop over lines: what the rest of the lines gives, by the first of them and the rest after it.
-use Rattle.std.proofs.Common.{◌≡◌, ℕ, zero, suc, ◌+◌, ◌*◌, ◌<◌, ◌≤◌, Bool, true, false, cond, List, [], ◌∷◌, length, get_or, drop, sym, refl, ap, ap₂, ◌∙◌, mul-le-mul_left, mul-add, inl, inr, arith}
+use Rattle.std.proofs.Common.{◌≡◌, ℕ, suc, ◌+◌, ◌*◌, ◌≤◌, Bool, true, false, cond, List, [], ◌∷◌, length, sym, subst, refl, ap, ap₂, ◌∙◌, mul-le-mul_left, mul-add, inl, inr, arith}
 use Rattle.std.specs.Prelude.{◌⊎◌}
-use Rattle.std.specs.List.{count_by}
-use Rattle.std.proofs.lemmas.List.{at_drop_more}
-use Rattle.std.proofs.lemmas.List.Recursion.{is_count_by}
 use Rattle.account.specs.declared.side.Side.{Side}
 use Rattle.account.specs.declared.side.Side.TheVariants.{Bought, Sold}
-use Rattle.account.specs.declared.block.Block.TheVariants.{Trade}
 use Rattle.account.specs.declared.line.Line.{Line}
-use Rattle.account.specs.declared.by_isin.ByIsin.{ByIsin}
-use Rattle.account.specs.ByIsin.{lines_in}
 use Rattle.account.specs.Lines.{if_bought, if_sold, keep, sum_of}
 use Rattle.account.specs.Settings.{Setting}
 use Rattle.account.specs.Charges.{cash_rounded_up, cash_rounded_down, cash_charged, cash_credited}
-use Rattle.account.proofs.Sums.{sum_turn, sum_end}
+use Rattle.account.proofs.Sums.{sum_first}
 use Rattle.valuation.specs.declared.per_side.PerSide.{PerSide}
 use Rattle.valuation.specs.Cash.{side_cash, cash_of}
 use Rattle.valuation.specs.PerSide.{IsSumPerSide}
 
--- what stands past the end of a slice of lines
-abbrev pub no_line : Line
-no_line = record { reference = 0; isin = record { bytes = [] }; side = Bought; titles = 0; cash = 0; block = Trade 0 }
+-- a sum over the lines that pass p has come to n before the rest
+pub record Summed (f : Line → ℕ) (p : Line → Bool) (ls rest : List Line) (n : ℕ) : Type 0 where
+  pub sum : n + sum_of f (keep p rest) ≡ sum_of f (keep p ls)
 
-abbrev pub line_at : List Line → ℕ → Line
-line_at ls k = get_or ls k no_line
+pub summed_more : {f : Line → ℕ} {p : Line → Bool} {ls rest next : List Line} {l : Line} {n m : ℕ} (t : Bool) → rest ≡ l ∷ next → t ≡ p l → m ≡ n + cond t (f l) 0 → Summed f p ls rest n → Summed f p ls next m
+summed_more {f} {p} {next = next} {l} t h e d s =
+    record { sum = omega (arith, ap (λ ms. sum_of f (keep p ms)) h ∙ sum_first f p l next, s.sum, ap {B = ℕ} (λ b. cond b (f l) 0) e) }
 
--- a sum over the lines that pass p has come to n before the line k
-pub record Summed (f : Line → ℕ) (p : Line → Bool) (ls : List Line) (k n : ℕ) : Type 0 where
-  pub sum : n + sum_of f (keep p (drop k ls)) ≡ sum_of f (keep p ls)
+pub summed_all : {f : Line → ℕ} {p : Line → Bool} {ls rest : List Line} {n : ℕ} → rest ≡ [] → Summed f p ls rest n → n ≡ sum_of f (keep p ls)
+summed_all {f} {p} h s = omega (arith, ap (λ ms. sum_of f (keep p ms)) h, s.sum)
 
-pub summed_more : {f : Line → ℕ} {p : Line → Bool} {ls : List Line} {k n m : ℕ} (t : Bool) → k < length ls → t ≡ p (line_at ls k) → m ≡ n + cond t (f (line_at ls k)) 0 → Summed f p ls k n → Summed f p ls (k + 1) m
-summed_more {f} {p} {ls} {k} t h e d s =
-    record {
-      sum =
-          omega (arith, sum_turn f p ls k no_line h, s.sum, ap {B = ℕ} (λ b. cond b (f (line_at ls k)) 0) e);
-    }
-
-pub summed_all : {f : Line → ℕ} {p : Line → Bool} {ls : List Line} {k n : ℕ} → length ls ≤ k → Summed f p ls k n → n ≡ sum_of f (keep p ls)
-summed_all {f} {p} {ls} {k} h s = omega (arith, sum_end f p ls k h, s.sum)
-
--- a sum over the lines that pass p, each at most b, has come to n before the line k
-pub record Bounded (b : ℕ) (p : Line → Bool) (ls : List Line) (k n : ℕ) : Type 0 where
-  pub high : n + b * length (keep p (drop k ls)) ≤ b * length (keep p ls)
+-- a sum over the lines that pass p, each at most b, has come to n before the rest
+pub record Bounded (b : ℕ) (p : Line → Bool) (ls rest : List Line) (n : ℕ) : Type 0 where
+  pub high : n + b * length (keep p rest) ≤ b * length (keep p ls)
 
 count_first : (b : ℕ) (p : Line → Bool) (l : Line) (ls : List Line) → b * length (keep p (l ∷ ls)) ≡ cond (p l) b 0 + b * length (keep p ls)
 count_first b p l ls = go (p l)
@@ -50,14 +34,11 @@ count_first b p l ls = go (p l)
     go true = omega (arith, mul-add b (length (keep p ls)) 1)
     go false = omega arith
 
-pub bounded_more : {b : ℕ} {p : Line → Bool} {ls : List Line} {k n m : ℕ} (t : Bool) → k < length ls → t ≡ p (line_at ls k) → m ≤ n + cond t b 0 → Bounded b p ls k n → Bounded b p ls (k + 1) m
-bounded_more {b} {p} {ls} {k} t h e d s =
-    record {
-      high =
-          omega (arith, at_drop_more (λ ms. b * length (keep p ms)) ls k no_line h ∙ count_first b p (line_at ls k) (drop (k + 1) ls), s.high, ap {B = ℕ} (λ c. cond c b 0) e);
-    }
+pub bounded_more : {b : ℕ} {p : Line → Bool} {ls rest next : List Line} {l : Line} {n m : ℕ} (t : Bool) → rest ≡ l ∷ next → t ≡ p l → m ≤ n + cond t b 0 → Bounded b p ls rest n → Bounded b p ls next m
+bounded_more {b} {p} {next = next} {l} t h e d s =
+    record { high = omega (arith, ap (λ ms. b * length (keep p ms)) h ∙ count_first b p l next, s.high, ap {B = ℕ} (λ c. cond c b 0) e) }
 
-pub bounded_all : {b : ℕ} {p : Line → Bool} {ls : List Line} {k n : ℕ} → Bounded b p ls k n → n ≤ b * length (keep p ls)
+pub bounded_all : {b : ℕ} {p : Line → Bool} {ls rest : List Line} {n : ℕ} → Bounded b p ls rest n → n ≤ b * length (keep p ls)
 bounded_all s = omega (arith, s.high)
 
 pub kept_length : {X : Type 0} (p : X → Bool) (xs : List X) → length (keep p xs) ≤ length xs
@@ -68,26 +49,23 @@ kept_length {X} p (x ∷ xs) = go (p x) (kept_length p xs)
     go true h = omega arith
     go false h = omega arith
 
-pub bounded_most : {b : ℕ} {p : Line → Bool} {ls : List Line} {k n : ℕ} → Bounded b p ls k n → n ≤ b * length ls
+pub bounded_most : {b : ℕ} {p : Line → Bool} {ls rest : List Line} {n : ℕ} → Bounded b p ls rest n → n ≤ b * length ls
 bounded_most {b} {p} {ls} s = omega (arith, s.high, mul-le-mul_left b (kept_length p ls))
-
--- ---- the words of the library for the same
-pub count_is : (p : Line → Bool) (xs : List ByIsin) → count_by (λ x. p x.line) xs ≡ length (keep p (lines_in xs))
-count_is p xs = sym (is_count_by (λ ys. length (keep p (lines_in ys))) (λ x. p x.line) refl (λ y ys. go (p y.line) y.line (keep p (lines_in ys))) xs)
-  where
-    go : (b : Bool) (l : Line) (ls : List Line) → length (cond b (l ∷ ls) ls) ≡ cond b (1 + length ls) (length ls)
-    go true l ls = omega arith
-    go false l ls = refl
 
 -- ---- a line among lines
 abbrev pub IsAmong : List Line → Line → Type 0
 IsAmong [] l = ⊥
 IsAmong (x ∷ xs) l = (x ≡ l) ⊎ IsAmong xs l
 
-pub has_at : (ls : List Line) (k : ℕ) → k < length ls → IsAmong ls (line_at ls k)
-has_at [] k h = absurd (omega arith)
-has_at (l ∷ ls) zero h = inl refl
-has_at (l ∷ ls) (suc k) h = inr (has_at ls k (omega arith))
+-- what is left of lines stands among them
+abbrev pub AreAmong : List Line → List Line → Type 0
+AreAmong ls rest = (l : Line) → IsAmong rest l → IsAmong ls l
+
+pub first_among : (ls : List Line) {rest next : List Line} {l : Line} → rest ≡ l ∷ next → AreAmong ls rest → IsAmong ls l
+first_among ls {l = l} h a = a l (subst (λ ms. IsAmong ms l) (sym h) (inl refl))
+
+pub next_among : (ls : List Line) {rest next : List Line} {l : Line} → rest ≡ l ∷ next → AreAmong ls rest → AreAmong ls next
+next_among ls h a = λ k i. a k (subst (λ ms. IsAmong ms k) (sym h) (inr i))
 
 -- ---- a number on its side is no more than the number
 pub bought_most : (s : Side) (n m : ℕ) → n ≤ m → if_bought s n ≤ m

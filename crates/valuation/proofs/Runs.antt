@@ -1,16 +1,12 @@
 -- Lines whose ISINs go up: those of the first ISIN, and those that come after them.
-use Rattle.std.proofs.Common.{◌≡◌, ℕ, ◌<◌, ◌≤◌, Bool, true, false, cond, not, ltb, List, [], ◌∷◌, ◌++◌, length, take, drop, Some, None, add_comm, add-one, refl, ap, ◌∙◌, ap₂, subst, ⊎_elim, append-nil, arith}
-use Rattle.std.specs.List.{AllByRecursion as All, list_all, position, position_or_len}
-use Rattle.std.specs.Option.{unwrap_or}
-use Rattle.std.proofs.lemmas.List.Sums.{prefix_len-le-length}
-use Rattle.std.proofs.lemmas.Bool.{and_parts, and_from, cases_Bool, cond_both, cond-true, cond-false, lt-ltb, ltb-false}
+use Rattle.std.proofs.Common.{◌≡◌, ℕ, ◌<◌, ◌≤◌, Bool, true, false, cond, ltb, List, [], ◌∷◌, ◌++◌, length, refl, ap, ◌∙◌, ap₂, subst, ⊎_elim, append-nil, arith}
+use Rattle.std.specs.List.{AllByRecursion as All, list_all}
+use Rattle.std.proofs.lemmas.Bool.{and_parts, cases_Bool, cond_both, cond-true, cond-false, lt-ltb}
 use Rattle.quantities.specs.declared.isin.Isin.{Isin}
 use Rattle.register.specs.Bytes.{Bytes}
 use Rattle.register.specs.Keys.{inserted_by}
 use Rattle.market.specs.Records.{isin_rank}
-use Rattle.account.specs.declared.by_isin.ByIsin.{ByIsin}
 use Rattle.account.specs.declared.line.Line.{Line}
-use Rattle.account.specs.ByIsin.{lines_in}
 use Rattle.account.specs.Lines.{same_isin, is_in_block, keep, has_isin, with_isin, isins, TwelveBytes}
 use Rattle.account.specs.declared.block_name.BlockName.{BlockName}
 use Rattle.account.specs.declared.block_name.BlockName.TheVariants.{Trade as trade, Failed as failed, Held as held, CashOnly as cash_only}
@@ -18,7 +14,8 @@ use Rattle.account.specs.Settings.{Setting}
 use Rattle.account.specs.Rows.{block_row, if_any, block_rows, isin_rows, rows_of_isins, statement_rows}
 use Rattle.account.proofs.Ordered.{ranks_apart}
 use Rattle.account.proofs.Terms.{same_isin_decides}
-use Rattle.valuation.specs.IsinOrder.{OtherFirst, Rises}
+use Rattle.account.specs.ByIsin.{OtherFirst}
+use Rattle.valuation.specs.IsinOrder.{Rises}
 
 -- each line is of the ISIN
 abbrev pub EachOf : Isin → List Line → Type 0
@@ -139,26 +136,3 @@ rest_after n i ls ms b t e h o r = other_after i ms (twelve ls b e h) t o (rises
     twelve : (ks : List Line) → TwelveBytes ks → EachOf i ks → 1 ≤ length ks → Bytes 12 i.bytes
     twelve [] b e h = absurd (omega arith)
     twelve (k ∷ ks) b e h = subst (λ j. Bytes 12 j.bytes) e.0 b.0
-
--- ---- where the lines of an ISIN end
-abbrev pub other : Isin → ByIsin → Bool
-other i x = not (same_isin x.line.isin i)
-
-pub run_taken : (i : Isin) (xs : List ByIsin) → list_all (λ l. same_isin l.isin i) (lines_in (take (position_or_len (other i) xs) xs)) ≡ true
-run_taken i [] = refl
-run_taken i (x ∷ xs) = ⊎_elim
-    (λ (e : same_isin x.line.isin i ≡ true). rw (e, add_comm 1 (position_or_len (other i) xs), add-one) (and_from (same_isin x.line.isin i) _ e (run_taken i xs)))
-    (λ (e : same_isin x.line.isin i ≡ false). rw e refl)
-    (cases_Bool (same_isin x.line.isin i))
-
-pub rest_left : (i : Isin) (xs : List ByIsin) → OtherFirst i (lines_in (drop (position_or_len (other i) xs) xs))
-rest_left i [] = tt
-rest_left i (x ∷ xs) = ⊎_elim
-    (λ (e : same_isin x.line.isin i ≡ true). rw (e, add_comm 1 (position_or_len (other i) xs), add-one) (rest_left i xs))
-    (λ (e : same_isin x.line.isin i ≡ false). rw e e)
-    (cases_Bool (same_isin x.line.isin i))
-
-pub end_is : (p : ByIsin → Bool) (xs : List ByIsin) → unwrap_or (position p xs) (length xs) ≡ position_or_len p xs
-end_is p xs =
-    cond_both (ltb (position_or_len p xs) (length xs)) (Some (position_or_len p xs)) None (λ o. unwrap_or o (length xs) ≡ position_or_len p xs) (λ _. refl)
-    (λ e. omega (arith, ltb-false _ _ e, prefix_len-le-length (λ x. not (p x)) xs))

@@ -6,17 +6,16 @@ use Rattle.quantities.specs.declared.isin.Isin.{Isin}
 use Rattle.quantities.specs.Ranges.{most_titles}
 use Rattle.register.specs.Keys.{Ascends, inserted_by}
 use Rattle.market.specs.Records.{isin_rank}
-use Rattle.account.specs.declared.by_isin.ByIsin.{ByIsin}
 use Rattle.account.specs.declared.line.Line.{Line}
 use Rattle.account.specs.declared.row.Row.{Row}
-use Rattle.account.specs.ByIsin.{isin_line_rank, lines_by_isin, lines_in, SmallReferences}
+use Rattle.account.specs.ByIsin.{isin_line_rank, lines_by_isin, SmallReferences}
 use Rattle.account.specs.Lines.{sum_of}
 use Rattle.account.specs.declared.block_name.BlockName.{BlockName}
 use Rattle.account.specs.Answers.{is_well_formed, is_well_dated, fault, titles_of}
 use Rattle.account.specs.Calls.{line_rank}
 use Rattle.account.specs.Settings.{Setting}
 use Rattle.account.specs.Valid.{all_valid}
-use Rattle.account.proofs.ByIsin.{taken_small, by_isin_long, all_by_isin}
+use Rattle.account.proofs.ByIsin.{taken_small, by_isin_long, all_by_isin, by_isin_law}
 use Rattle.account.proofs.Formed.{taken_bytes}
 use Rattle.account.proofs.SameRows.{of_kept, rows_same, margin_same, rounded_same}
 use Rattle.account.proofs.Sorted.{Rises as RankRises, rises}
@@ -60,29 +59,32 @@ faultless_before s ls f = faultless_of_each s ls (go ls (each_of_faultless s (li
     go (k ∷ ks) a = let q = all_before (λ l. fault s l ≡ 0) k (lines_by_isin ks) a in (q.0, go ks q.1)
 
 -- ---- their order
-rising_after : (x : ByIsin) (xs : List ByIsin) → RankRises (λ y. isin_line_rank y.line) (x ∷ xs) → SmallReferences (lines_in (x ∷ xs)) → Rises (isin_rank x.line.isin) (lines_in xs)
+rising_after : (x : Line) (xs : List Line) → RankRises isin_line_rank (x ∷ xs) → SmallReferences (x ∷ xs) → Rises (isin_rank x.isin) xs
 rising_after x [] r s = tt
 rising_after x (y ∷ ys) r s = (omega (arith, r.0.0, s.0, s.1.0), rising_after y ys r.1 s.1)
 
-rising : (xs : List ByIsin) → RankRises (λ y. isin_line_rank y.line) xs → SmallReferences (lines_in xs) → Rises 0 (lines_in xs)
+rising : (xs : List Line) → RankRises isin_line_rank xs → SmallReferences xs → Rises 0 xs
 rising [] r s = tt
 rising (x ∷ xs) r s = (omega arith, rising_after x xs r s)
 
-module _ (s : Setting) (ls : List Line) (xs : List ByIsin) (same : lines_in xs ≡ lines_by_isin ls) (up : Ascends line_rank ls) (taken : all_valid s.today ls ≡ true) where
-  taken_too : all_valid s.today (lines_in xs) ≡ true
+module _ (s : Setting) (ls : List Line) (xs : List Line) (same : xs ≡ lines_by_isin ls) (up : Ascends line_rank ls) (taken : all_valid s.today ls ≡ true) where
+  taken_too : all_valid s.today xs ≡ true
   taken_too = ap (all_valid s.today) same ∙ taken_of_each s.today (lines_by_isin ls) (all_by_isin (λ l. (is_well_formed l && is_well_dated s.today l.block) ≡ true) ls (each_of_taken s.today ls taken))
 
-  pub workable : length ls ≤ 65535 → ((i : Isin) (k : BlockName) → titles_of i k ls ≤ most_titles) → Faultless s ls → Ascends (λ x. isin_line_rank x.line) xs → Workable s (lines_in xs)
-  workable few titles faultless sorted =
+  sorted : Ascends isin_line_rank xs
+  sorted = subst (Ascends isin_line_rank) (sym same) (by_isin_law ls up (taken_small s.today ls taken)).rises
+
+  pub workable : length ls ≤ 65535 → ((i : Isin) (k : BlockName) → titles_of i k ls ≤ most_titles) → Faultless s ls → Workable s xs
+  workable few titles faultless =
       record {
         few = omega (arith, ap length same, by_isin_long ls);
         taken = taken_too;
         titles = λ i k. omega (arith, ap (titles_of i k) same, ap (sum_of (λ (l : Line). l.titles)) (of_kept i k ls up), titles i k);
         faultless = subst (Faultless s) (sym same) (faultless_of_each s (lines_by_isin ls) (all_by_isin (λ l. fault s l ≡ 0) ls (each_of_faultless s ls faultless)));
-        rising = rising xs (rises (λ (x : ByIsin). isin_line_rank x.line) xs sorted) (taken_small s.today (lines_in xs) taken_too);
+        rising = rising xs (rises isin_line_rank xs sorted) (taken_small s.today xs taken_too);
       }
 
-  stated_same : {before after : List Row} {r : StatedMargin} → StatesMargin s (lines_in xs) before after r → StatesMargin s ls before after r
+  stated_same : {before after : List Row} {r : StatedMargin} → StatesMargin s xs before after r → StatesMargin s ls before after r
   stated_same {before} {after} {r} m =
       let n : StatesMargin s (lines_by_isin ls) before after r = subst (λ ks. StatesMargin s ks before after r) same m in
       let twelve = taken_bytes s.today ls taken in
@@ -94,6 +96,6 @@ module _ (s : Setting) (ls : List Line) (xs : List ByIsin) (same : lines_in xs �
         places = n.places ∙ ap (λ rs. places_with_rows 0 rs before) rows;
       }
 
-  pub states_same : {t : Setting} {ys : List ByIsin} {before after : List Row} {r : StatedMargin} → t ≡ s → ys ≡ xs → Faultless s ls → StatesMargin t (lines_in ys) before after r → States s ls before after (Ok r)
+  pub states_same : {t : Setting} {ys : List Line} {before after : List Row} {r : StatedMargin} → t ≡ s → ys ≡ xs → Faultless s ls → StatesMargin t ys before after r → States s ls before after (Ok r)
   states_same {t} {ys} {before} {after} {r} e d f m =
-      states f (stated_same (subst (λ u. StatesMargin u (lines_in xs) before after r) e (subst (λ zs. StatesMargin t (lines_in zs) before after r) d m)))
+      states f (stated_same (subst (λ u. StatesMargin u xs before after r) e (subst (λ zs. StatesMargin t zs before after r) d m)))

@@ -1,21 +1,24 @@
 -- Lines of one ISIN, and the rows that they come to.
-use Rattle.std.specs.Prelude.{ℕ, Bool, List, length, Result}
+use Rattle.std.specs.Prelude.{◌≡◌, ℕ, ◌≤◌, Bool, IsFalse, List, length, Option, Some, Ok, Result}
+use Rattle.std.specs.Coded.{Coded-set, coded_ℕ, coded×, coded_result, coded_option, Π_prop}
+use Rattle.std.specs.Option.{option_map}
 use Rattle.account.specs.declared.line.Line.{Line}
 use Rattle.account.specs.declared.row.Row.{Row}
 use Rattle.account.specs.declared.scope.Scope.{Scope}
-use Rattle.account.specs.ByIsin.{lines_in}
 use Rattle.account.specs.Charges.{cash_charged, cash_credited}
-use Rattle.account.specs.Lines.{is_in_block, keep, any}
+use Rattle.account.specs.Lines.{is_same_block, is_in_block, keep, any}
 use Rattle.account.specs.declared.block_name.BlockName.{BlockName}
+use Rattle.account.specs.declared.block_name.BlockName.TheVariants.{CashOnly as cash_only}
 use Rattle.account.specs.Rows.{row, block_row, block_rows, isin_rows}
 use Rattle.account.specs.Settings.{Setting}
 use Rattle.valuation.specs.declared.basis.Basis.{Ghosts}
 use Rattle.valuation.specs.declared.isin_lines.IsinLines.{IsinLines}
 use Rattle.valuation.specs.declared.isin_sums.IsinSums.{IsinSums}
 use Rattle.valuation.specs.declared.line_sums.LineSums.{LineSums}
+use Rattle.valuation.specs.declared.quote.Quote.{Quote}
 use Rattle.valuation.specs.LineSums.{IsSumOf}
 use Rattle.valuation.specs.IsinSums.{scope_sums}
-use Rattle.valuation.specs.Quotes.{quote_answer}
+use Rattle.valuation.specs.Quotes.{quote_parts, quote_answer}
 use Rattle.valuation.specs.RowCharges.{scope_rule}
 use Rattle.valuation.specs.Scopes.{row_lines}
 
@@ -26,7 +29,7 @@ module _ {B : Type 0} {g : Ghosts B} where
 
   -- the lines, of all blocks
   abbrev pub all_lines : IsinLines B g → List Line
-  all_lines p = lines_in p.lines.now
+  all_lines p = p.lines
 
   -- the lines of a block
   abbrev pub block_lines : IsinLines B g → BlockName → List Line
@@ -38,7 +41,7 @@ module _ {B : Type 0} {g : Ghosts B} where
 
   -- how many lines there are
   abbrev pub line_count : IsinLines B g → ℕ
-  line_count p = length p.lines.now
+  line_count p = length p.lines
 
   -- how many lines a block has
   abbrev pub block_count : IsinLines B g → BlockName → ℕ
@@ -51,6 +54,19 @@ module _ {B : Type 0} {g : Ghosts B} where
   -- the quote of the ISIN
   abbrev pub isin_quote : IsinLines B g → Result (ℕ × ℕ) ℕ
   isin_quote p = quote_answer (basis_setting p) p.isin
+
+  -- the quote of the ISIN is there, where a block of titles has lines
+  abbrev pub IsQuoteOf : IsinLines B g → Option Quote → Type 0
+  IsQuoteOf p quote =
+      (k : BlockName) → IsFalse (is_same_block k cash_only) → 1 ≤ block_count p k →
+      option_map (λ q. Ok (quote_parts q)) quote ≡ Some (isin_quote p)
+
+  pub IsQuoteOf-prop : (p : IsinLines B g) (quote : Option Quote) → IsProp (IsQuoteOf p quote)
+  IsQuoteOf-prop p quote =
+      Π_prop
+      (λ k. Π_prop
+      (λ titled. Π_prop
+      (λ some. Coded-set (coded_option (coded_result (coded× coded_ℕ coded_ℕ) coded_ℕ)) _ _)))
 
   -- the cash that is charged for a scope
   abbrev pub charged_cash : IsinLines B g → Scope → ℕ

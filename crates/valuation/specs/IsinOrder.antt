@@ -1,15 +1,8 @@
 -- Lines that come ISIN by ISIN, in byte order.
-use Rattle.std.specs.Prelude.{ℕ, ◌≤◌, List, [], ◌∷◌, IsFalse, ⊤}
+use Rattle.std.specs.Prelude.{ℕ, ◌≤◌, List, [], ◌∷◌, ⊤}
 use Rattle.std.specs.Coded.{×_prop, Unit-prop, le_prop}
-use Rattle.quantities.specs.declared.isin.Isin.{Isin}
 use Rattle.market.specs.Records.{isin_rank}
 use Rattle.account.specs.declared.line.Line.{Line}
-use Rattle.account.specs.Lines.{same_isin}
-
--- the first line, if there is one, is of another ISIN
-abbrev pub OtherFirst : Isin → List Line → Type 0
-OtherFirst i [] = ⊤
-OtherFirst i (l ∷ ls) = IsFalse (same_isin l.isin i)
 
 -- the ISINs of lines go up in byte order, from a rank on
 abbrev pub Rises : ℕ → List Line → Type 0

@@ -26,7 +26,8 @@ pub(crate) trait Basis {
         ensures { result ≡ (setting self.now).next };
 
     /// The quote of an ISIN; refuses one without a price, and one whose tranche has no percentage.
-    fn quote_of(&self, isin: Isin) -> Result<Quote, Refusal>
+    /// There is a guess of the place of its price, which then moves to the place behind.
+    fn quote_of(&self, guess: &mut usize, isin: Isin) -> Result<Quote, Refusal>
         ensures { numbers_of quote_parts result ≡ quote_answer (setting self.now) isin };
 
     /// The rate for a term; refuses a term that is not below the reach.

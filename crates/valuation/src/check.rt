@@ -1,5 +1,5 @@
 //! The check of lines before their margin is worked: the lowest reference with a fault is refused.
-ghost use Rattle.account.specs.ByIsin.{lines_by_isin, lines_in};
+ghost use Rattle.account.specs.ByIsin.{lines_by_isin};
 ghost use Rattle.std.specs.Prelude.{◌≡◌, IsTrue};
 ghost use Rattle.valuation.specs.Checks.{Faultless, FindsFirstFault};
 
@@ -21,12 +21,12 @@ fn check_by_reference<B: Basis>(basis: &B, lines: &[Line]) -> Result<(), LineRef
 }
 
 // Whether no line has a fault.
-fn are_faultless<B: Basis>(basis: &B, lines: &[ByIsin]) -> bool
-    ensures { IsTrue result → Faultless (B.setting basis.now) (lines_in lines.now) }
+fn are_faultless<B: Basis>(basis: &B, lines: &ByIsin<'_>) -> bool
+    ensures { IsTrue result → Faultless (B.setting basis.now) lines.now }
 {
     let mut lookups = Lookups::none();
-    for standing in lines {
-        if lookups.fault_of(basis, &standing.line).is_err() {
+    for line in lines.iter() {
+        if lookups.fault_of(basis, line).is_err() {
             return false;
         }
     }
@@ -37,9 +37,9 @@ fn are_faultless<B: Basis>(basis: &B, lines: &[ByIsin]) -> bool
 pub(crate) fn check_lines<B: Basis>(
     basis: &B,
     lines: &[Line],
-    by_isin: &[ByIsin],
+    by_isin: &ByIsin<'_>,
 ) -> Result<(), LineRefusal>
-    requires { lines_in by_isin.now ≡ lines_by_isin lines.now }
+    requires { by_isin.now ≡ lines_by_isin lines.now }
     ensures { FindsFirstFault (B.setting basis.now) lines.now result }
 {
     // By ISIN a quote is looked up once for each, and most often no line has a fault.

@@ -13,21 +13,24 @@ use quantities::isin::Isin;
 use quantities::refusal::Refusal;
 
 /// The ISIN whose quote was looked up last, and the longest term whose rate was, where there is
-/// one: lines that come together have the same ISIN.
+/// one: lines that come together have the same ISIN, and often the next one is that of the next
+/// price.
 #[derive(Clone, Copy)]
 pub(crate) struct Lookups {
     isin: Option<Isin>,
     term: Option<u16>,
+    next_price: usize,
 }
 
 impl Lookups {
     /// Before the first line there is neither.
     pub(crate) fn none() -> Lookups
-        ensures { result ≡ record { isin = None; term = None } }
+        ensures { result ≡ record { isin = None; term = None; next_price = 0 } }
     {
         Lookups {
             isin: None,
             term: None,
+            next_price: 0,
         }
     }
 
@@ -40,7 +43,7 @@ impl Lookups {
         if self.isin.is_some_and(|known| known == isin) {
             return Ok(());
         }
-        basis.quote_of(isin)?;
+        basis.quote_of(&mut self.next_price, isin)?;
         self.isin = Some(isin);
         Ok(())
     }

@@ -1,7 +1,7 @@
 //! Lines that a book has taken, with what their margin is worked on.
 ghost use Rattle.std.specs.Prelude.{◌≡◌, ◌≤◌, IsTrue, length};
 ghost use Rattle.account.specs.Answers.{titles_of};
-ghost use Rattle.account.specs.ByIsin.{lines_by_isin, lines_in, isin_line_rank};
+ghost use Rattle.account.specs.ByIsin.{lines_by_isin};
 ghost use Rattle.account.specs.Calls.{line_rank};
 ghost use Rattle.account.specs.declared.block_name.BlockName.{BlockName};
 ghost use Rattle.account.specs.Valid.{all_valid};
@@ -26,13 +26,12 @@ use netting::NettingRule;
 pub struct Portfolio<'a, 'p, C, N> {
     pub setup: Setup<'a, 'p, C, N>,
     pub lines: &'a [Line],
-    pub by_isin: &'a [ByIsin],
+    pub by_isin: ByIsin<'a>,
     ghost few: { length lines.now ≤ 65535 },
     ghost taken: { IsTrue (all_valid setup.market.now.today lines.now) },
     ghost titles: { (i : Isin) (k : BlockName) → titles_of i k lines.now ≤ most_titles },
     ghost ascends: { Ascends line_rank lines.now },
-    ghost ordered: { lines_in by_isin.now ≡ lines_by_isin lines.now },
-    ghost sorted: { Ascends (λ x. isin_line_rank x.line) by_isin.now },
+    ghost ordered: { by_isin ≡ lines_by_isin lines.now },
 }
 
 // A setting is written out by curve and rule: it holds functions, which no model's value can.
@@ -50,7 +49,7 @@ impl<'a, 'p, C: Curve, N: NettingRule> Portfolio<'a, 'p, C, N> {
             States (setting_of C.Curve.reach C.Curve.rate N.NettingRule.charged setup)
             self.now.lines.now rows.old rows.new result }
     {
-        let ready = ReadyLines::check(&self.setup, self.lines, self.by_isin)?;
+        let ready = ReadyLines::check(&self.setup, self.lines, &self.by_isin)?;
         Ok(ready.statement(rows))
     }
 

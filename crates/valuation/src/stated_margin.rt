@@ -1,6 +1,5 @@
 //! The margin of lines, and its statement.
 ghost use Rattle.std.specs.Prelude.{◌≡◌, ◌+◌, ◌*◌, ◌≤◌, length};
-ghost use Rattle.account.specs.ByIsin.{lines_in};
 ghost use Rattle.account.specs.Lines.{is_trade, keep};
 ghost use Rattle.account.specs.Margin.{not_below_zero};
 ghost use Rattle.valuation.specs.Spaces.{ChargesWithin, TallyWithin};
@@ -9,6 +8,7 @@ ghost use Rattle.valuation.specs.Tallies.{tally_cents};
 use crate::tally::Tally;
 use account::block::Block;
 use account::by_isin::ByIsin;
+use account::line::Line;
 use account::margin::Margin;
 use quantities::amount::{Cents, SignedCents};
 
@@ -29,16 +29,26 @@ fn not_below_zero(charges: SignedCents) -> Cents
     charges.max(0) as u64
 }
 
+// Whether a line is a trade.
+fn is_trade(line: &Line) -> bool
+    ensures { result ≡ is_trade line.now }
+{
+    matches!(line.block, Block::Trade(_))
+}
+
 /// How many lines are trades.
-pub(crate) fn trades_in(lines: &[ByIsin]) -> u32
-    requires { length (lines_in lines.now) ≤ 65535 }
-    ensures is { result ≡ length (keep is_trade (lines_in lines.now)) }
+pub(crate) fn trades_in(lines: &ByIsin<'_>) -> u32
+    requires { length lines.now ≤ 65535 }
+    ensures is { result ≡ length (keep is_trade lines.now) }
     ensures few { result ≤ 65535 }
 {
-    let trades = lines
-        .iter()
-        .filter(|standing| matches!(standing.line.block, Block::Trade(_)));
-    trades.count() as u32
+    let mut trades = 0;
+    for line in lines.iter() {
+        if is_trade(line) {
+            trades += 1;
+        }
+    }
+    trades
 }
 
 /// The margin of a tally, for so many trades: a present value is rounded for each.

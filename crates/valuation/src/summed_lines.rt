@@ -1,11 +1,8 @@
 //! Lines of one ISIN, summed up.
 ghost use Rattle.std.specs.Prelude.{◌≡◌, ◌≤◌, length, IfSome, IsFalse, Ok};
-ghost use Rattle.std.proofs.Props.{props};
 ghost use Rattle.std.specs.Coded.{Π_prop};
-ghost use Rattle.quantities.specs.RangeChecks.{numbers_of};
-ghost use Rattle.valuation.specs.IsinLines.{AreSummedBy, isin_quote};
+ghost use Rattle.valuation.specs.IsinLines.{AreSummedBy, IsQuoteOf, IsQuoteOf-prop};
 ghost use Rattle.valuation.specs.LineSums.{IsSumOf-prop};
-ghost use Rattle.valuation.specs.Quotes.{quote_parts};
 
 use crate::basis::Basis;
 use crate::isin_lines::IsinLines;
@@ -23,16 +20,15 @@ use account::scope::Scope;
 use netting::Position;
 use quantities::amount::{SignedCents, initial_margin, market_value};
 use quantities::range::Titles;
-use quantities::refusal::Refusal;
 
-/// Lines of one ISIN with what their rows are worked from: the quote, where there is one, and the
-/// sums for each row.
+/// Lines of one ISIN with what their rows are worked from: the quote, where some of them have
+/// titles, and the sums for each row.
 #[derive(Drop)]
 pub(crate) struct SummedLines<'b, 'a, B: Basis> {
     pub lines: &'b IsinLines<'a, B>,
-    pub quote: Result<Quote, Refusal>,
+    pub quote: Option<Quote>,
     pub sums: IsinSums,
-    ghost quoted: { numbers_of quote_parts quote ≡ isin_quote lines.now } by { Prim.hlevel props },
+    ghost quoted: { IsQuoteOf lines.now quote } by { IsQuoteOf-prop lines.now quote },
     ghost summed: { AreSummedBy lines.now sums } by { Π_prop (λ scope. IsSumOf-prop _ _ _) },
 }
 
@@ -44,8 +40,10 @@ impl<'b, 'a, B: Basis> SummedLines<'b, 'a, B> {
     ghost use Rattle.account.specs.Rows.{block_of};
     ghost use Rattle.valuation.specs.IsinLines.{scope_lines, line_count, block_count, has_lines};
     ghost use Rattle.valuation.specs.IsinLines.{IsScopeSum, charged_cash, credited_cash};
+    ghost use Rattle.valuation.specs.IsinLines.{isin_quote};
     ghost use Rattle.valuation.specs.IsinLines.{scope_row, worked_row, row_if_any, all_rows};
     ghost use Rattle.valuation.specs.PerSide.{PerSideWithin};
+    ghost use Rattle.valuation.specs.Quotes.{quote_parts};
     ghost use Rattle.valuation.specs.RowCharges.{RowWithin};
     ghost use Rattle.valuation.specs.Spaces.{RowsWithin, HasSpaceFor};
     ghost use Rattle.valuation.specs.Tallies.{AddsRows};

@@ -16,6 +16,7 @@ mod text;
 #[cfg(engine)]
 pub mod engine;
 pub mod generator;
+pub mod promises;
 
 pub use isin::Isin;
 

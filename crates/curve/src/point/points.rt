@@ -26,7 +26,10 @@ impl<'a> Model for Points<'a> {
 
     ghost Value = { Table Point };
 
-    ghost view = { λ points. points.list };
+    ghost view = { λ points. record {
+      records = points.list.records;
+      room = points.list.room;
+    } };
 }
 
 impl<'a> Points<'a> {
@@ -38,9 +41,9 @@ impl<'a> Points<'a> {
         ensures none { result.records ≡ [] }
         ensures room { result.room ≡ min (length places.old) 64 }
     {
-        let most = places.len().min(Points::MOST);
-        let list = Register::new(&mut places[..most]);
-        Points { list }
+        Points {
+            list: Register::with_room(places, Points::MOST),
+        }
     }
 
     /// The points by term.

@@ -75,6 +75,7 @@ pub struct Edit {
     pub words: &'static str,
 }
 
+/// Refusals of every number.
 pub const EDITS: [Edit; 25] = [
     Edit {
         old: RUN,
@@ -225,5 +226,181 @@ pub const EDITS: [Edit; 25] = [
         new: "99;360",
         refused: "REFUSED;12;3;0;0;1",
         words: "position line 21, reference 1: no point of the curve is at its term or beyond",
+    },
+];
+
+/// A value in each column that does not fit it.
+pub const CELLS: [Edit; 18] = [
+    Edit {
+        old: "9000;9001;N;S",
+        new: "65536;9001;N;S",
+        refused: "REFUSED;4;1;3;1;0",
+        words: "day line 3, cell 1 (TODAY): not a day number from 0 to 65,535",
+    },
+    Edit {
+        old: "9000;9001;N;S",
+        new: "9000;;N;S",
+        refused: "REFUSED;4;1;3;2;0",
+        words: "day line 3, cell 2 (NEXT): not a day number from 0 to 65,535",
+    },
+    Edit {
+        old: "9000;9001;N;S",
+        new: "9000;9001;n;S",
+        refused: "REFUSED;4;1;3;3;0",
+        words: "day line 3, cell 3 (MODE): neither N for the net rule nor G for the gross rule",
+    },
+    Edit {
+        old: "9000;9001;N;S",
+        new: "9000;9001;N;D",
+        refused: "REFUSED;4;1;3;4;0",
+        words: "day line 3, cell 4 (CURVE): neither S for the step curve nor L for the sloping curve",
+    },
+    Edit {
+        old: "4;200",
+        new: "7;200",
+        refused: "REFUSED;4;1;8;1;0",
+        words: "percentage line 8, cell 1 (TRANCHE): not a whole number from 1 to 6",
+    },
+    Edit {
+        old: "4;200",
+        new: "4;10001",
+        refused: "REFUSED;4;1;8;2;0",
+        words: "percentage line 8, cell 2 (PCT): not a whole number from 0 to 10,000",
+    },
+    Edit {
+        old: "364;360",
+        new: "0364;360",
+        refused: "REFUSED;4;1;12;1;0",
+        words: "curve line 12, cell 1 (TERM): not a whole number from 0 to 65,535",
+    },
+    Edit {
+        old: "364;360",
+        new: "364;-501",
+        refused: "REFUSED;4;1;12;2;0",
+        words: "curve line 12, cell 2 (RATE): not a whole number from -500 to 3,000",
+    },
+    Edit {
+        old: "1010000;11000",
+        new: "0;11000",
+        refused: "REFUSED;4;1;16;2;0",
+        words: "price line 16, cell 2 (PRICE): not a whole number from 1 to 2,000,000",
+    },
+    Edit {
+        old: "1010000;11000",
+        new: "1010000;x",
+        refused: "REFUSED;4;1;16;3;0",
+        words: "price line 16, cell 3 (MATURITY): not a day number from 0 to 65,535",
+    },
+    Edit {
+        old: "2;ES0000001018;S",
+        new: "0;ES0000001018;S",
+        refused: "REFUSED;4;1;22;1;0",
+        words: "position line 22, cell 1 (REF): not a whole number from 1 to 4,294,967,295",
+    },
+    Edit {
+        old: "2;ES0000001018;S",
+        new: "2;es0000001018;S",
+        refused: "REFUSED;4;1;22;2;0",
+        words: "position line 22, cell 2 (ISIN): not an ISIN of twelve characters with its right check digit",
+    },
+    Edit {
+        old: "2;ES0000001018;S",
+        new: "2;ES0000001018;s",
+        refused: "REFUSED;4;1;22;3;0",
+        words: "position line 22, cell 3 (SIDE): neither B for bought nor S for sold",
+    },
+    Edit {
+        old: "S;T;400",
+        new: "S;R;400",
+        refused: "REFUSED;4;1;22;4;0",
+        words: "position line 22, cell 4 (BLOCK): none of T, F, H and C",
+    },
+    Edit {
+        old: "S;T;400;400",
+        new: "S;R;400;2000001",
+        refused: "REFUSED;4;1;22;4;0",
+        words: "position line 22, cell 4 (BLOCK): none of T, F, H and C",
+    },
+    Edit {
+        old: "S;T;400;400",
+        new: "S;T;400;2000001",
+        refused: "REFUSED;4;1;22;6;0",
+        words: "position line 22, cell 6 (TITLES): not a whole number from 1 to 2,000,000",
+    },
+    Edit {
+        old: "40400000;9001",
+        new: "1000000000001;9001",
+        refused: "REFUSED;4;1;22;7;0",
+        words: "position line 22, cell 7 (CASH): not a whole number from 0 to 1,000,000,000,000",
+    },
+    Edit {
+        old: "40400000;9001",
+        new: "40400000;+9001",
+        refused: "REFUSED;4;1;22;8;0",
+        words: "position line 22, cell 8 (DATE): not a day number from 0 to 65,535",
+    },
+];
+
+/// Further forms of marks, rows, trailers, keys and dates.
+pub const FURTHER_EDITS: [Edit; 10] = [
+    Edit {
+        old: "CRV;1",
+        new: "CRW;1",
+        refused: "REFUSED;1;1;10;0;0",
+        words: "curve line 10: it should be CRV and a version from 1 to 255, as CRV;1",
+    },
+    Edit {
+        old: "PRC;1",
+        new: "PRC;0",
+        refused: "REFUSED;1;1;14;0;0",
+        words: "price line 14: it should be PRC and a version from 1 to 255, as PRC;1",
+    },
+    Edit {
+        old: "POS;2",
+        new: "POS",
+        refused: "REFUSED;1;1;19;0;0",
+        words: "position line 19: it should be POS and a version from 1 to 255, as POS;1",
+    },
+    Edit {
+        old: "1;50\n4;200",
+        new: "4;50\n4;200",
+        refused: "REFUSED;6;2;8;0;0",
+        words: "percentage line 8: its tranche has a percentage already",
+    },
+    Edit {
+        old: "364;360\nEND;1",
+        new: "364;360\n364;360\nEND;2",
+        refused: "REFUSED;6;2;13;0;0",
+        words: "curve line 13: its term has a rate already",
+    },
+    Edit {
+        old: "300000;8998",
+        new: "300000;9001",
+        refused: "REFUSED;7;2;23;0;3",
+        words: "position line 23, reference 3: the DATE of a line that is no trade is after TODAY",
+    },
+    Edit {
+        old: "101000000;9101",
+        new: "101000000;8999",
+        refused: "REFUSED;7;2;21;0;1",
+        words: "position line 21, reference 1: the DATE of a trade is not from TODAY to 365 days later",
+    },
+    Edit {
+        old: "1500;1000",
+        new: "1500;1;1000",
+        refused: "REFUSED;3;1;21;0;0",
+        words: "position line 21: the count of its cells is 9, that of the names 8",
+    },
+    Edit {
+        old: "1;50\n",
+        new: "\n",
+        refused: "REFUSED;3;1;7;0;0",
+        words: "percentage line 7: the count of its cells is 1, that of the names 2",
+    },
+    Edit {
+        old: "9000;9001;N;S\nEND;1\n",
+        new: "9000;9001;N;S\nEND;1\r\n",
+        refused: "REFUSED;5;1;4;0;0",
+        words: "day line 4 ends with a carriage return",
     },
 ];

@@ -2,7 +2,7 @@ use Rattle.std.proofs.Common.{rules, ◌≡◌, ◌^◌, ◌<◌, length, Err, p
 use Rattle.std.proofs.lemmas.Int.{ints, to_z_pos}
 use Rattle.run.specs.Runs.{run}
 use Rattle.run.specs.Refusals.{placed_refusal}
-use Rattle.margin_c.proofs.Outcomes.{refused_is, Given, given_is, given_within}
+use Rattle.margin_c.proofs.Outcomes.{refused_is, refused_keeps, Given, given_is, given_within}
 use Rattle.margin_c.proofs.margin_run_told.Goals as goal
 use Rattle.margin_c.proofs.margin_run_told.Goals.{After-from, In-Ok}
 
@@ -36,6 +36,11 @@ pub returns-in-Err-clause-answer : goal.returns-in-Err-clause-answer
 returns-in-Err-clause-answer c =
     let v : to_z w64 (of_z w64 c.answer.result) ≡ c.answer.result = omega (arith, ints) in
     rw (refused ((goal.at.returns-in-Err-clause-answer c).After-from), v) (c.answer.ensures ∙ ap (λ r. neg_ℤ (pos r.number)) c.from.ensures)
+
+pub returns-in-Err-clause-statement : goal.returns-in-Err-clause-statement
+returns-in-Err-clause-statement c =
+    let s = (goal.at.returns-in-Err-clause-statement c).After-from in
+    rw (refused s) (refused_keeps (run c.args.sheets.now (length c.args.statement.now)) s.in-Err.refused _ _ s.in-Err.ensures.answer)
 
 pub returns-in-Err-clause-refusal : goal.returns-in-Err-clause-refusal
 returns-in-Err-clause-refusal c = rw (refused ((goal.at.returns-in-Err-clause-refusal c).After-from)) c.from.ensures

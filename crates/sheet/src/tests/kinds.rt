@@ -30,8 +30,6 @@ impl RowKind for Lots {
 
     ghost COLUMNS = { 2 };
 
-    const NAMES: &'static [&'static [u8]] = &[b"TITLES", b"PRICE"];
-
     ghost kind = { record {
       mark = codes "LOT";
       needed = codes "TITLES" ∷ (codes "PRICE" ∷ []);
@@ -42,8 +40,8 @@ impl RowKind for Lots {
       };
     } };
 
-    fn name(column: usize) -> &'static [u8] {
-        Self::NAMES[column]
+    fn names() -> &'static [&'static [u8]] {
+        &[b"TITLES", b"PRICE"]
     }
 
     fn fits(column: usize, cells: &Cells<'_, '_>) -> bool {

@@ -1,7 +1,9 @@
 use Rattle.std.proofs.Common.{◌∙◌}
+use Rattle.sheet.proofs.Causes.{causes_stand}
 use Rattle.sheet.proofs.Names.{each_name_stands, read_by_name}
 use Rattle.sheet.proofs.Numbering.{lines_counted, lines_reported}
 use Rattle.sheet.proofs.Readings.{same_readings}
+use Rattle.sheet.proofs.Written.{read_as_written}
 use Rattle.sheet.proofs.Rows.{opened_has_names, accepted_rows, leftmost_reported}
 use Rattle.sheet.proofs.laws.sheet_laws_stand.Goals as goal
 
@@ -28,5 +30,13 @@ returns-clause-lines_counted g c = lines_counted g.K.RowKind.kind
 pub returns-clause-lines_reported : goal.returns-clause-lines_reported
 returns-clause-lines_reported g c = lines_reported g.K.RowKind.kind
 
+pub returns-clause-causes_stand : goal.returns-clause-causes_stand
+returns-clause-causes_stand g c =
+    causes_stand g.K.RowKind.kind (λ cell. g.met.K.RowKind.judged cell ∙ g.met.K.RowKind.counted)
+
 pub returns-clause-same_readings : goal.returns-clause-same_readings
 returns-clause-same_readings g c = same_readings g.K.RowKind.kind
+
+pub returns-clause-read_as_written : goal.returns-clause-read_as_written
+returns-clause-read_as_written g c =
+    read_as_written g.K.RowKind.kind (λ cell. g.met.K.RowKind.judged cell ∙ g.met.K.RowKind.counted)

@@ -11,7 +11,8 @@ returns-in-None c =
     let upto = c.loop-place.invariant.0 in
     let start = c.loop-place.invariant.1 in
     let found = sym c.position.ensures ∙ c.in-None.is in
-    last line room c.loop-place.place (length line) l upto (rw (← start) (rw take_rest at found)) refl
+    let ended = last line _ room c.loop-place.place (length line) l upto (rw (← start) (rw take_rest at found)) refl in
+    record { count = (omega (arith, ended.0, l, upto.size), sym ended.0); room = ended.1 }
 
 pub loop-place-preserved : goal.loop-place-preserved
 loop-place-preserved c =
@@ -22,9 +23,12 @@ loop-place-preserved c =
     let start = c.loop-place.invariant.1 in
     let found = sym c.position.ensures ∙ c.in-Some.is in
     let p = c.loop-place.start + c.in-Some.len in (
-      step line room c.loop-place.place p l upto c.in-Some.len (rw (← start) (rw take_rest at found)) (ap (λ s. s + c.in-Some.len) start),
-      omega (arith, next_start line room c.loop-place.place p l upto),
+      step line _ room c.loop-place.place p l upto c.in-Some.len (rw (← start) (rw take_rest at found)) (ap (λ s. s + c.in-Some.len) start),
+      omega (arith, next_start line _ room c.loop-place.place p l upto),
     )
 
 pub returns : goal.returns
-returns c = rw (← c.loop-place.auto.room) (full _ _ _ (omega (arith, c.loop-place-test.false, c.loop-place.auto.room)) c.loop-place.invariant.0)
+returns c =
+    let upto = c.loop-place.invariant.0 in
+    let left = full _ _ _ c.loop-place.place (omega (arith, c.loop-place-test.false, c.loop-place.auto.room)) upto in
+    record { count = λ l. absurd (omega (arith, l, left.0, upto.size)); room = left.1 }

@@ -7,4 +7,4 @@ use Rattle.text.proofs.ends.near_ends.Given as goal
 abbrev pub invariant-loop-place : goal.invariant-loop-place
 invariant-loop-place l =
     let line = take l.end l.text in
-    Upto line l.room l.place × Marked line (start_of l.room l.place) l.marks
+    Upto line l.initial.room l.room l.place × Marked line (start_of l.room l.place) l.marks

@@ -1,6 +1,5 @@
-use Rattle.valuation.specs.Checks.{IsFound}
-use Rattle.valuation.proofs.Faults.{ClearTo}
+use Rattle.valuation.specs.Checks.{IsFound, Faultless}
 use Rattle.valuation.proofs.check.are_faultless.Given as goal
 
-abbrev pub invariant-loop-standing : goal.invariant-loop-standing
-invariant-loop-standing g l = record { known : IsFound (g.B.Basis.setting l.basis) l.lookups; clear : ClearTo (g.B.Basis.setting l.basis) l.lines l.standing-index }
+abbrev pub invariant-loop-line : goal.invariant-loop-line
+invariant-loop-line g l = record { known : IsFound (g.B.Basis.setting l.basis) l.lookups; clear : Faultless (g.B.Basis.setting l.basis) l.line-iterator → Faultless (g.B.Basis.setting l.basis) l.lines }

@@ -1,9 +1,12 @@
-use Rattle.std.proofs.Common.{◌≡◌, ◌∙◌, rules}
-use Rattle.std.specs.List.{count_by}
-use Rattle.std.proofs.iter.runs.Made.{chains}
-use Rattle.account.specs.Lines.{is_trade}
-use Rattle.valuation.proofs.LineLoops.{count_is}
+use Rattle.std.proofs.Common.{ap, length, arith}
+use Rattle.account.specs.Lines.{is_trade, keep}
+use Rattle.valuation.proofs.LineLoops.{kept_length}
 use Rattle.valuation.proofs.stated_margin.trades_in.Goals as goal
 
-pub returns-clause-is : goal.returns-clause-is
-returns-clause-is c = let counted : c.count.result ≡ count_by (λ x. is_trade x.line) c.args.lines.now = search (rules, chains) in counted ∙ count_is is_trade c.args.lines.now
+pub overflow_add-trades : goal.overflow_add-trades
+overflow_add-trades c =
+    let more = ap (λ ms. length (keep is_trade ms)) c.in-Some.ensures.steps in
+    omega (arith, c.loop-line.invariant, more, kept_length is_trade c.args.lines.now)
+
+pub returns-clause-few : goal.returns-clause-few
+returns-clause-few c = omega (arith, c.loop-line.invariant, kept_length is_trade c.args.lines.now)

@@ -9,7 +9,7 @@ returns g c =
     let p = c.args.self.now in
     let e = c.in_ok-ready.ensures in
     let meaning = setting_of g.C.Curve.reach g.C.Curve.rate g.N.NettingRule.charged in
-    states_same (meaning p.setup) p.lines.now p.by_isin.now p.ordered p.ascends p.taken (ap meaning e.basis) e.lines e.faultless c.statement.ensures
+    states_same (meaning p.setup) p.lines.now p.by_isin p.ordered p.ascends p.taken (ap meaning e.basis) e.lines e.faultless c.statement.ensures
 
 pub returns-in_err-ready : goal.returns-in_err-ready
 returns-in_err-ready g c =

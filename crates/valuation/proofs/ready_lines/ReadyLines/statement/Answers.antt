@@ -1,5 +1,4 @@
 use Rattle.std.proofs.Common.{◌∙◌, arith, rules}
-use Rattle.account.specs.ByIsin.{lines_in as by_isin_lines}
 use Rattle.valuation.proofs.Margins.{cents_are, amounts_are, count_is, places_are}
 use Rattle.valuation.proofs.ready_lines.ReadyLines.statement.Goals as goal
 
@@ -12,7 +11,7 @@ returns g c =
     let placed = places_are none all in
     record {
       cents = c.total.ensures.cents ∙ cents_are none all;
-      rounded = omega (arith, c.total.ensures.rounded, c.trades_in.ensures.is, amounts_are s (by_isin_lines c.args.self.now.lines.now) none all);
+      rounded = omega (arith, c.total.ensures.rounded, c.trades_in.ensures.is, amounts_are s c.args.self.now.lines.now none all);
       count = count_is none all;
       places = search rules;
     }

@@ -1,6 +1,5 @@
 use Rattle.std.proofs.Common.{length, arith}
 use Rattle.std.proofs.lemmas.Int.{ints}
-use Rattle.account.specs.ByIsin.{lines_in}
 use Rattle.valuation.specs.RowCharges.{scope_rule}
 use Rattle.valuation.specs.Scopes.{row_lines}
 use Rattle.valuation.proofs.Scopes.{lines_few, lines_fewer}
@@ -10,32 +9,32 @@ use Rattle.valuation.proofs.summed_lines.SummedLines.scope_row.Goals as goal
 pub overflow_cast-result : goal.overflow_cast-result
 overflow_cast-result g c =
     let r = c.args.self.now.lines.now in
-    omega (arith, ints, c.scope_cash-cash.ensures.within.bought, lines_few (g.B.Basis.setting r.basis.now) (lines_in r.lines.now) r.few r.isin c.args.scope)
+    omega (arith, ints, c.scope_cash-cash.ensures.within.bought, lines_few (g.B.Basis.setting r.basis.now) r.lines r.few r.isin c.args.scope)
 
 pub overflow_sub-result : goal.overflow_sub-result
 overflow_sub-result g c =
     let r = c.args.self.now.lines.now in
     let v = c.market_value-value.ensures in
-    omega (arith, ints, c.scope_cash-cash.ensures.within.bought, lines_few (g.B.Basis.setting r.basis.now) (lines_in r.lines.now) r.few r.isin c.args.scope, v.low, v.high)
+    omega (arith, ints, c.scope_cash-cash.ensures.within.bought, lines_few (g.B.Basis.setting r.basis.now) r.lines r.few r.isin c.args.scope, v.low, v.high)
 
 pub overflow_cast-result-2 : goal.overflow_cast-result-2
 overflow_cast-result-2 g c =
     let r = c.args.self.now.lines.now in
-    omega (arith, ints, c.scope_cash-cash.ensures.within.sold, lines_few (g.B.Basis.setting r.basis.now) (lines_in r.lines.now) r.few r.isin c.args.scope)
+    omega (arith, ints, c.scope_cash-cash.ensures.within.sold, lines_few (g.B.Basis.setting r.basis.now) r.lines r.few r.isin c.args.scope)
 
 pub overflow_add-result : goal.overflow_add-result
 overflow_add-result g c =
     let r = c.args.self.now.lines.now in
     let v = c.market_value-value.ensures in
     let e = c.scope_cash-cash.ensures in
-    omega (arith, ints, e.within.bought, e.within.sold, lines_few (g.B.Basis.setting r.basis.now) (lines_in r.lines.now) r.few r.isin c.args.scope, v.low, v.high)
+    omega (arith, ints, e.within.bought, e.within.sold, lines_few (g.B.Basis.setting r.basis.now) r.lines r.few r.isin c.args.scope, v.low, v.high)
 
 pub returns : goal.returns
 returns g c =
     let r = c.args.self.now.lines.now in
     let s = g.B.Basis.setting r.basis.now in
     let scope = c.args.scope in
-    let ls = lines_in r.lines.now in
+    let ls = r.lines in
     let t = c.scope_titles-position in
     let m = c.scope_cash-cash in
     let v = c.market_value-value in
