@@ -1,12 +1,12 @@
 -- Lines of an ISIN that stand together on both sides of a rank.
-use Rattle.std.proofs.Common.{◌≡◌, ℕ, zero, suc, ◌+◌, ◌-◌, ◌<◌, ◌≤◌, Bool, true, false, List, [], ◌∷◌, ◌++◌, length, get_or, take, drop, sym, refl, ap, ap₂, ◌∙◌, subst, ⊎_elim, arith}
-use Rattle.std.proofs.lemmas.Bool.{true≢false, and_parts, cases_Bool, cond-true, cond-false}
+use Rattle.std.proofs.Common.{◌≡◌, ℕ, zero, suc, ◌+◌, ◌-◌, ◌<◌, ◌≤◌, Bool, true, false, ltb, List, [], ◌∷◌, ◌++◌, length, get_or, take, drop, sym, refl, ap, ap₂, ◌∙◌, subst, ⊎_elim, arith}
+use Rattle.std.proofs.lemmas.Bool.{true≢false, and_parts, cases_Bool, cond-true, cond-false, lt-ltb, le-ltb}
 use Rattle.std.proofs.lemmas.List.{take-append-drop, take-take, drop-take, drop-append-le}
 use Rattle.std.proofs.ByRecursion.{All-get_or}
 use Rattle.std.specs.List.{AllByRecursion as All, list_all}
 use Rattle.quantities.specs.declared.isin.Isin.{Isin}
 use Rattle.account.specs.declared.line.Line.{Line}
-use Rattle.account.specs.Lines.{same_isin, keep}
+use Rattle.account.specs.Lines.{same_isin, keep, any}
 use Rattle.account.specs.ByIsin.{no_line, OtherFirst, StandAtEnd, StandAtFront, StandTogether}
 
 module _ (i : Isin) where
@@ -45,6 +45,18 @@ module _ (i : Isin) where
       (λ (e : is l ≡ true). absurd (true≢false (sym (All-get_or (λ y. is y ≡ true) ls n no_line (omega arith) (s.0 e)) ∙ o (suc n) refl)))
       (λ (e : is l ≡ false). trailing_kept (suc n) ls (omega arith) s.1 h (λ k q. o (suc k) (ap suc q)) ∙ sym (cond-false (is l) _ _ e))
       (cases_Bool (is l))
+
+  -- the lines of an ISIN in front of two, and in front of the second
+  pub counted_beside : (ls : List Line) (a b : ℕ) → length ls ≤ 2 → a ≤ length ls → list_all is (take a ls) ≡ true → OtherFirst i (drop a ls) → b ≤ length (drop 1 ls) → list_all is (take b (drop 1 ls)) ≡ true → OtherFirst i (drop b (drop 1 ls)) →
+      ltb 0 (a + b) ≡ any is ls
+  counted_beside [] a b few m h o n g p = le-ltb 0 (a + b) (omega arith)
+  counted_beside (l ∷ ls) (suc a) b few m h o n g p =
+      lt-ltb 0 (suc a + b) (omega arith) ∙ sym (rw ((and_parts (is l) (list_all is (take a ls)) h).0) refl)
+  counted_beside (l ∷ []) zero b few m h o n g p = le-ltb 0 (0 + b) (omega arith) ∙ sym (rw o refl)
+  counted_beside (l ∷ k ∷ []) zero zero few m h o n g p = sym (rw (o, p) refl)
+  counted_beside (l ∷ k ∷ []) zero (suc b) few m h o n g p =
+      lt-ltb 0 (0 + suc b) (omega arith) ∙ sym (rw (o, (and_parts (is k) (list_all is (take b [])) g).0) refl)
+  counted_beside (l ∷ k ∷ j ∷ ls) zero b few m h o n g p = absurd (omega (arith, few))
 
   taken_on : (r b : ℕ) (ls : List Line) → take (r + b) ls ≡ take r ls ++ take b (drop r ls)
   taken_on r b ls = sym (take-append-drop r (take (r + b) ls)) ∙ ap₂ ◌++◌ (take-take r (r + b) ls (omega arith)) (drop-take r b ls)

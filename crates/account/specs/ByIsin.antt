@@ -1,5 +1,5 @@
 -- Lines by their ISINs.
-use Rattle.std.specs.Prelude.{◌≡◌, ℕ, ◌+◌, ◌*◌, ◌^◌, ◌<◌, Bool, List, [], ◌∷◌, IsTrue, IsFalse, ⊤}
+use Rattle.std.specs.Prelude.{◌≡◌, ℕ, ◌+◌, ◌-◌, ◌*◌, ◌^◌, ◌<◌, Bool, List, [], ◌∷◌, take, drop, IsTrue, IsFalse, ⊤}
 use Rattle.std.specs.List.{AllByRecursion}
 use Rattle.quantities.specs.declared.isin.Isin.{Isin}
 use Rattle.register.specs.Bytes.{Bytes}
@@ -41,6 +41,10 @@ no_line =
 -- the lines that stand at places
 abbrev pub lines_at : List ℕ → List Line → List Line
 lines_at places ls = records_at no_line ls places
+
+-- the lines beside a rank: the one before it and its own, or the first two
+abbrev pub lines_beside : ℕ → List Line → List Line
+lines_beside rank ls = take 2 (drop (rank - 1) ls)
 
 -- the first line, if there is one, is of another ISIN
 abbrev pub OtherFirst : Isin → List Line → Type 0

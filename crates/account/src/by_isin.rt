@@ -3,8 +3,9 @@ ghost use Rattle.std.specs.Prelude.{◌≡◌, ◌-◌, ◌<◌, ◌≤◌, IsTr
 ghost use Rattle.std.specs.List.{list_all};
 ghost use Rattle.std.specs.Option.{option_map};
 ghost use Rattle.std.specs.Iterator.{YieldsFirstRef, item_count};
-ghost use Rattle.account.specs.ByIsin.{isin_line_rank, no_line, FitsKey, OtherFirst, StandTogether};
-ghost use Rattle.account.specs.Lines.{same_isin, keep};
+ghost use Rattle.account.specs.ByIsin.{isin_line_rank, lines_beside, no_line};
+ghost use Rattle.account.specs.ByIsin.{FitsKey, OtherFirst, StandTogether};
+ghost use Rattle.account.specs.Lines.{same_isin, keep, any};
 ghost use Rattle.register.specs.Keys.{Ascends};
 ghost use Rattle.register.specs.Search.{SplitsAt};
 
@@ -101,6 +102,14 @@ impl<'a> ByIsin<'a> {
             rank += 1;
         }
         rank
+    }
+
+    /// Whether one of the lines beside a rank is of an ISIN: only these two are looked at.
+    pub fn has_beside(&self, isin: Isin, rank: usize) -> bool
+        ensures { result ≡ any (λ l. same_isin l.isin isin) (lines_beside rank self.now) }
+    {
+        let beside = self.from(rank.saturating_sub(1)).before(2);
+        beside.leading(isin) + beside.from(1).leading(isin) > 0
     }
 
     // The rank from which on the lines are of an ISIN, to the end.

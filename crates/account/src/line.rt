@@ -1,8 +1,9 @@
 //! The lines of an account.
 ghost use Rattle.std.specs.Prelude.{◌≡◌};
-ghost use Rattle.account.specs.Lines.{free_line};
+ghost use Rattle.account.specs.Lines.{free_line, is_in_block};
 
 use crate::block::Block;
+use crate::block_name::BlockName;
 use crate::side::Side;
 use quantities::isin::Isin;
 use register::record::Record;
@@ -26,6 +27,15 @@ impl Record for Line {
 
     fn key(&self) -> u32 {
         self.reference
+    }
+}
+
+impl Line {
+    /// Whether the line is of an ISIN and block.
+    pub fn is_in_block(&self, isin: Isin, block: BlockName) -> bool
+        ensures { result ≡ is_in_block isin block self.now }
+    {
+        self.isin == isin && BlockName::from(self.block) == block
     }
 }
 

@@ -1,14 +1,14 @@
 -- What the checks of a line answer.
-use Rattle.std.specs.Prelude.{◌≡◌, ℕ, ◌≤◌, Bool, List, Ok, Err, Result, IsTrue, IsFalse}
+use Rattle.std.specs.Prelude.{◌≡◌, ℕ, ◌≤◌, Bool, ◌&&◌, nat_le, List, Ok, Err, Result, IsTrue, IsFalse}
 use Rattle.quantities.specs.declared.refusal.Refusal.{Refusal}
-use Rattle.quantities.specs.Ranges.{most_titles}
+use Rattle.quantities.specs.Ranges.{most_cash, most_titles, highest_reference}
 use Rattle.quantities.specs.Refusals.{number}
 use Rattle.register.specs.Keys.{has_rank}
 use Rattle.account.specs.declared.line.Line.{Line}
 use Rattle.account.specs.Lines.{block_name, is_same_block, keep, sum_of}
 use Rattle.account.specs.declared.block_name.BlockName.{BlockName}
 use Rattle.account.specs.Calls.{refused, line_rank}
-use Rattle.account.specs.Answers.{is_well_formed, is_well_dated, titles_with, enter_answer}
+use Rattle.account.specs.Answers.{has_titles, is_well_formed, is_well_dated, titles_with, enter_answer}
 use Rattle.book.specs.declared.standing.Places.{Places}
 use Rattle.book.specs.Standing.{HasPlaces}
 
@@ -16,6 +16,12 @@ use Rattle.book.specs.Standing.{HasPlaces}
 abbrev pub RefusesUnless : Bool → Refusal → Result (Unit {0}) Refusal → Type 0
 RefusesUnless passes refusal (Ok _) = IsTrue passes
 RefusesUnless passes refusal (Err e) = IsFalse passes × (number e ≡ number refusal)
+
+-- each part of a line has its form and range, its ISIN left out
+abbrev pub parts_fit : Line → Bool
+parts_fit l =
+    (nat_le 1 l.reference && nat_le l.reference highest_reference)
+    && (has_titles (block_name l.block) l.titles && nat_le l.cash most_cash)
 
 -- the titles of a block among lines
 abbrev pub block_titles : BlockName → List Line → ℕ

@@ -10,7 +10,7 @@ ghost use Rattle.register.specs.Contents.{loan_of};
 ghost use Rattle.register.specs.Keys.{Ascends};
 ghost use Rattle.valuation.specs.Statements.{States};
 
-use crate::check::{check_date, check_form, check_titles};
+use crate::check::{check_date, check_isin, check_parts, check_titles};
 use crate::standing::{Places, StandingLines};
 use account::call::{Answer, Call};
 use account::line::Line;
@@ -33,6 +33,7 @@ use valuation::stated_margin::StatedMargin;
 pub struct Book<'m, 'p, 'l> {
     market: &'m Market<'p>,
     lines: StandingLines<'l>,
+    ghost ascends: { Ascends line_rank lines.records },
     ghost valid: { IsTrue (all_valid market.now.today lines.records) },
     ghost titles: { (i : Isin) (k : BlockName) → titles_of i k lines.records ≤ most_titles },
 }
@@ -70,14 +71,15 @@ impl<'m, 'p, 'l> Book<'m, 'p, 'l> {
     fn admit(&self, line: &Line) -> Result<Places, Refusal>
         ensures { AdmitsLine (today_of self.now) (lines_of self.now) line.now result }
     {
+        check_parts(line)?;
         let standing = self.lines.by_isin();
         let by_isin = standing.rank_of(line);
-        let same_isin = standing.lines_of(line.isin, by_isin);
-        check_form(line, same_isin.len() > 0)?;
+        check_isin(line, standing.has_beside(line.isin, by_isin))?;
         let Err(by_reference) = self.lines.place_of(line.reference) else {
             return Err(Refusal::KeyPresent);
         };
         check_date(self.market.today(), line.block)?;
+        let same_isin = standing.lines_of(line.isin, by_isin);
         check_titles(&same_isin, line)?;
         Ok(Places {
             by_reference,

@@ -2,9 +2,9 @@
 ghost use Rattle.std.specs.Prelude.{◌≡◌, ◌+◌, ◌≤◌, if◌then◌else◌, nat_le, IsTrue};
 ghost use Rattle.quantities.specs.Ranges.{most_titles};
 ghost use Rattle.account.specs.Lines.{block_name, is_same_block};
-ghost use Rattle.account.specs.Answers.{has_titles, is_well_formed, is_well_dated};
+ghost use Rattle.account.specs.Answers.{has_titles, is_well_dated};
 ghost use Rattle.quantities.specs.Isins.{is_isin};
-ghost use Rattle.book.specs.LineChecks.{RefusesUnless, block_titles};
+ghost use Rattle.book.specs.LineChecks.{RefusesUnless, block_titles, parts_fit};
 
 use account::block::Block;
 use account::block_name::BlockName;
@@ -23,17 +23,27 @@ fn titles_fit(block: Block, titles: u32) -> bool
     }
 }
 
-/// Refuses a line of which a part is outside its form or range.
-/// An ISIN that stands already is known to be one, and is not checked again.
-pub(crate) fn check_form(line: &Line, is_known: bool) -> Result<(), Refusal>
-    requires { IsTrue is_known → IsTrue (is_isin line.now.isin.bytes) }
-    ensures { RefusesUnless (is_well_formed line.now) Refusal.Value result }
+/// Refuses a line of which a part is outside its form or range, its ISIN left out.
+pub(crate) fn check_parts(line: &Line) -> Result<(), Refusal>
+    ensures { RefusesUnless (parts_fit line.now) Refusal.Value result }
 {
     let fits = matches!(line.reference, 1..=u32::MAX)
-        && (is_known || line.isin.is_valid())
         && titles_fit(line.block, line.titles)
         && line.cash <= Cash::MOST;
     if fits { Ok(()) } else { Err(Refusal::Value) }
+}
+
+/// Refuses a line whose ISIN is none.
+/// An ISIN that stands already is known to be one, and is not checked again.
+pub(crate) fn check_isin(line: &Line, is_known: bool) -> Result<(), Refusal>
+    requires { IsTrue is_known → IsTrue (is_isin line.now.isin.bytes) }
+    ensures { RefusesUnless (is_isin line.now.isin.bytes) Refusal.Value result }
+{
+    if is_known || line.isin.is_valid() {
+        Ok(())
+    } else {
+        Err(Refusal::Value)
+    }
 }
 
 /// Refuses a date outside the days of its block.

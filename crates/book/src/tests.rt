@@ -2,6 +2,7 @@
 use crate::book::Book;
 use crate::journal::{Journal, work_calls};
 use account::block::Block;
+use account::block_name::BlockName;
 use account::call::Call;
 use account::line::Line;
 use account::line_refusal::LineRefusal;
@@ -26,6 +27,10 @@ use valuation::setup::Setup;
 
 const BOND: Isin = Isin {
     bytes: *b"ES0000001018",
+};
+
+const SHORT_BOND: Isin = Isin {
+    bytes: *b"ES0000002024",
 };
 
 // What a place for a row may hold before.
@@ -140,6 +145,55 @@ fn a_margin_with_its_rows(rt: HostRuntime) -> Result<(), Fail> {
         (rows[0].initial_margin, rows[0].variation_margin),
         (2_020_000, 1_000_000)
     );
+    Ok(())
+}
+
+fn fill_both(market: &mut Market<'_>, points: &mut Points<'_>) -> Result<(), Refusal> {
+    fill(market, points)?;
+    market.add_price(Price::new(SHORT_BOND, 999_999, 9_100)?)?;
+    market.add_percentage(Percentage::new(1, 50)?)
+}
+
+fn lines_of_two_isins() -> [Line; 4] {
+    let failed = bought(3, 3, 300_000, Block::Failed(8_998));
+    [
+        Line {
+            isin: SHORT_BOND,
+            ..failed
+        },
+        bought(1, 1_000, 101_000_000, Block::Trade(9_101)),
+        sold(2, 400, 40_400_000, Block::Trade(9_001)),
+        bought(4, 0, 2_500, Block::CashOnly(9_000)),
+    ]
+}
+
+#[test]
+fn rows_of_two_isins_as_far_as_there_are_places(rt: HostRuntime) -> Result<(), Fail> {
+    let mut prices = [Price::default(); 2];
+    let mut percentages = [Percentage::default(); 6];
+    let mut market = Market::new(today()?, &mut prices, &mut percentages);
+    let mut point = [Point::default(); 1];
+    let mut points = Points::new(&mut point);
+    assert_eq!(rt; fill_both(&mut market, &mut points), Ok(()));
+    let curve = StepCurve { points: &points };
+    let mut places = [Line::default(); 4];
+    let mut by_isin = [0; 4];
+    let mut book = Book::new(&market, &mut places, &mut by_isin);
+    let lines = lines_of_two_isins();
+    assert!(rt; lines[0].is_in_block(SHORT_BOND, BlockName::Failed));
+    for line in lines {
+        assert_eq!(rt; number_of(book.enter(line)), 0);
+    }
+    assert_eq!(rt; outcome(book.margin(&curve, &Net)), (1_024_001, 6));
+    let mut rows = [BLANK; 2];
+    let counted = match book.statement(&curve, &Net, &mut rows) {
+        Ok(statement) => statement.rows,
+        Err(_) => 0,
+    };
+    assert_eq!(rt; counted, 3);
+    let [first, second] = rows.map(|row| (row.initial_margin, row.variation_margin));
+    assert_eq!(rt; first, (2_020_000, 1_000_000));
+    assert_eq!(rt; second, (2_500, 0));
     Ok(())
 }
 

@@ -103,6 +103,7 @@ impl<'a> Market<'a> {
         ensures after { self.new ≡ record self.old {
           prices = insert_after price_rank self.old.room price self.old.prices;
         } }
+        ensures ascends { Ascends price_rank self.new.prices }
     {
         self.prices.insert(price)
     }
@@ -113,14 +114,22 @@ impl<'a> Market<'a> {
         ensures after { self.new ≡ record self.old {
           percentages = insert_after percentage_rank 6 percentage self.old.percentages;
         } }
+        ensures ascends { Ascends percentage_rank self.new.percentages }
         ensures never_full { result ≢ Err Refusal.Full }
     {
         self.percentages.insert(percentage)
     }
 
-    /// The price of an ISIN. A guess of its place is looked at first, and moves behind the price
-    /// that is found.
-    pub fn price_of(&self, guess: &mut usize, isin: Isin) -> Option<Price>
+    /// The price of an ISIN.
+    pub fn price_of(&self, isin: Isin) -> Option<Price>
+        ensures { result ≡ found_by price_rank (isin_rank isin) self.now.prices }
+    {
+        self.prices.find(isin.bytes).copied()
+    }
+
+    /// The same. A guess of the price's place is looked at first, and moves behind the price that
+    /// is found.
+    pub fn price_near(&self, guess: &mut usize, isin: Isin) -> Option<Price>
         ensures found { result ≡ found_by price_rank (isin_rank isin) self.now.prices }
         ensures moved { guess.new
             ≡ guess_after price_rank (isin_rank isin) self.now.prices guess.old }

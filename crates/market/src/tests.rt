@@ -74,8 +74,9 @@ fn prices_are_refused_in_order(rt: HostRuntime) {
     assert_eq!(rt; priced(&mut market, GERMAN, 2_000_001), 4);
     assert_eq!(rt; priced(&mut market, GERMAN, 1), 9);
     assert_eq!(rt; market.prices().len(), 1);
-    assert!(rt; market.price_of(&mut 0, AMERICAN).is_some());
-    assert!(rt; market.price_of(&mut 0, GERMAN).is_none());
+    assert!(rt; market.price_of(AMERICAN).is_some());
+    assert!(rt; market.price_of(GERMAN).is_none());
+    assert!(rt; market.price_near(&mut 0, AMERICAN) == market.price_of(AMERICAN));
 }
 
 #[test]

@@ -31,7 +31,7 @@ impl<'a, 'p, C: Curve, N: NettingRule> Basis for Setup<'a, 'p, C, N> {
     }
 
     fn quote_of(&self, guess: &mut usize, isin: Isin) -> Result<Quote, Refusal> {
-        let price = self.market.price_of(guess, isin).ok_or(Refusal::NoPrice)?;
+        let price = self.market.price_near(guess, isin).ok_or(Refusal::NoPrice)?;
         let life = residual_life(self.market.today(), price.maturity);
         let percentage = self
             .market

@@ -17,6 +17,7 @@ invariant_of-self c =
     let a = c.in_ok-places.ensures.0 in
     let i = c.insert.ensures.change in
     record {
+      ascends = i.ascends;
       valid = insert_taken (today_of b) (room_for b) c.args.line b.lines.records _ a i.leaves b.valid;
       titles = insert_titles (today_of b) (room_for b) c.args.line b.lines.records _ a i.leaves b.titles;
     }

@@ -18,6 +18,7 @@ invariant_of-self c =
     let r = c.args.reference in
     let o = c.remove.ensures.change in
     record {
+      ascends = o.ascends;
       valid = subst (λ (ms : List Line). all_valid (today_of b) ms ≡ true) (sym o.leaves) (taken_without (today_of b) r b.lines.records b.valid);
       titles = λ i k. subst (λ (ms : List Line). titles_of i k ms ≤ most_titles) (sym o.leaves) (omega (arith, titles_without i k r b.lines.records, b.titles i k));
     }
